@@ -1,0 +1,3 @@
+pub mod Clocks
+pub mod Laws
+pub mod Starred

@@ -1,0 +1,16 @@
+pub mod Sizes
+pub mod Clock
+pub mod Task
+pub mod Request
+pub mod State
+pub mod Fresh
+pub mod Taking
+pub mod Scan
+pub mod Waking
+pub mod Polling
+pub mod Steps
+pub mod Refusals
+pub mod Broken
+pub mod Sound
+pub mod Points
+pub mod Runs
