@@ -1,7 +1,11 @@
+pub mod Batches
 pub mod Bools
 pub mod Clocks
+pub mod Keeping
+pub mod KeepsQueue
 pub mod Laws
 pub mod Queues
 pub mod Slots
 pub mod Soundness
 pub mod Starred
+pub mod Tasks

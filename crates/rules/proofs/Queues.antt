@@ -120,6 +120,10 @@ once-middle (y ∷ p) x q o =
 
 -- The list without a slot.
 
+pub without-empty : (x : Slot) (q : List Slot) → q ≡ [] → without x q ≡ []
+unfolding without
+without-empty x q e = ap (λ (l : List Slot). without x l) e
+
 pub without-absent : (x : Slot) (q : List Slot) → member x q ≡ false → without x q ≡ q
 unfolding without anyOf
 without-absent x [] e = refl

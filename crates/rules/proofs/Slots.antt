@@ -8,7 +8,7 @@ use mathlib.Core.List.{List}
 use mathlib.Core.Option.{Option, none, some, Option·getD, Option·map}
 use borrow.Author.Tests.{eqb-false}
 use lib.ListN.{length, getD, set, List·getD-eq-default}
-use lib.Seq.{getD-set-same, getD-set-other, set-out}
+use lib.Seq.{getD-set-same, getD-set-other, set-out, set-set}
 use Rattle.rules.specs.declared.Slot.{Slot}
 use Rattle.rules.specs.Sizes.{slotCount}
 use Rattle.rules.specs.Request.{Request, noRequest}
@@ -69,3 +69,33 @@ used-altered x f s = ap (λ (o : Option Request). isSome o) (slot-altered x f s)
 
 pub altered-beside : (x y : Slot) (f : Request → Request) (s : State) → sameSlot x y ≡ false → slotAt y (alterRequest x f s) ≡ slotAt y s
 altered-beside x y f s e = slot-beside x y (Option·map f (slotAt x s)) s e
+
+map-twice : (f g : Request → Request) (o : Option Request) → Option·map g (Option·map f o) ≡ Option·map (λ r. g (f r)) o
+map-twice f g none = refl
+map-twice f g (some r) = refl
+
+-- two changes of one request are one
+pub alter-twice : (x : Slot) (f g : Request → Request) (s : State) → alterRequest x g (alterRequest x f s) ≡ alterRequest x (λ r. g (f r)) s
+alter-twice x f g s =
+    ap (λ (rs : List (Option Request)). withSlots rs s)
+    (set-set (s .slots) (x .0) _ _
+    ∙ ap (λ (o : Option Request). set (s .slots) (x .0) o)
+    (ap (λ (o : Option Request). Option·map g o) (slot-altered x f s) ∙ map-twice f g (slotAt x s)))
+
+-- what a change of a request leaves as it was
+pub field-altered : {A : Type 0} (g : Request → A) (x : Slot) (f : Request → Request) (s : State)
+    → ((r : Request) → g (f r) ≡ g r) → g (requestAt x (alterRequest x f s)) ≡ g (requestAt x s)
+field-altered g x f s h = ap (λ (o : Option Request). g (Option·getD o noRequest)) (slot-altered x f s) ∙ go (slotAt x s)
+  where
+    go : (o : Option Request) → g (Option·getD (Option·map f o) noRequest) ≡ g (Option·getD o noRequest)
+    go none = refl
+    go (some r) = h r
+
+-- and what it makes so, where that holds of a free slot too
+pub field-set : {A : Type 0} (g : Request → A) (v : A) (x : Slot) (f : Request → Request) (s : State)
+    → ((r : Request) → g (f r) ≡ v) → g noRequest ≡ v → g (requestAt x (alterRequest x f s)) ≡ v
+field-set g v x f s h k = ap (λ (o : Option Request). g (Option·getD o noRequest)) (slot-altered x f s) ∙ go (slotAt x s)
+  where
+    go : (o : Option Request) → g (Option·getD (Option·map f o) noRequest) ≡ v
+    go none = k
+    go (some r) = h r
