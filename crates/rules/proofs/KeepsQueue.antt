@@ -15,7 +15,7 @@ use Rattle.rules.specs.State.{State, isStrict, sameSlot, isThe, hasReser
 use Rattle.rules.specs.Scan.{without, leave, queueBack, queueFront}
 use Rattle.rules.specs.Steps.{free}
 use Rattle.rules.specs.Broken.{member, twice}
-use Rattle.rules.specs.Sound.{Waits, WellMade, Sound}
+use Rattle.rules.specs.Sound.{Waits, Reserves, WellMade, Sound}
 use Rattle.rules.proofs.Bools.{by-test, clash}
 use Rattle.rules.proofs.Queues.{same-slot, slot-same, member-behind, member-before, member-middle, once-cons, once-snoc, without-empty, member-without, gone-without, once-without, pigeonhole}
 use Rattle.rules.proofs.Slots.{used-below, slot-set, slot-beside, request-altered, used-altered, altered-beside, field-altered, field-set}
@@ -382,19 +382,23 @@ module _ (x : Slot) (o : Option Request) (s : State) where
 pub sound-free : (x : Slot) (s : State) → x .0 < slotCount → member x (s .queue) ≡ false → hasReservation x s ≡ false → Sound s → Sound (free x s)
 sound-free x s l m v h = sound-filled x none s l m v refl (λ e. absurd (false≢true e)) h
 
--- a free slot is neither queued nor reserved
-pub free-unqueued : (x : Slot) (s : State) → inUse x s ≡ false → Sound s → member x (s .queue) ≡ false
-free-unqueued x s u h = by-test (member x (s .queue)) (λ m. clash (h .queued x m .used) u) (λ m. m)
+-- Who is not queued, and who has not the reservation.
 
-pub free-unreserved : (x : Slot) (s : State) → inUse x s ≡ false → Sound s → hasReservation x s ≡ false
-free-unreserved x s u h = go (s .reservation) refl
+pub has-reservation : (x : Slot) (s : State) → hasReservation x s ≡ true → s .reservation ≡ some x
+has-reservation x s e = go (s .reservation) e
   where
-    go : (o : Option Slot) → s .reservation ≡ o → isThe x o ≡ false
-    go none e = refl
-    go (some y) e =
-        by-test (sameSlot x y)
-        (λ f. clash (h .reserves x (e ∙ ap (λ (z : Slot). some z) (sym (same-slot x y f))) .waits .used) u)
-        (λ f. f)
+    go : (o : Option Slot) → isThe x o ≡ true → o ≡ some x
+    go none f = absurd (false≢true f)
+    go (some y) f = ap (λ (z : Slot). some z) (sym (same-slot x y f))
+
+pub not-reserved : (x : Slot) (s : State) → Sound s → (Reserves s x → ⊥) → hasReservation x s ≡ false
+not-reserved x s h k = by-test (hasReservation x s) (λ e. absurd (k (h .reserves x (has-reservation x s e)))) (λ e. e)
+
+pub not-queued : (x : Slot) (s : State) → Sound s → (Waits s x → ⊥) → member x (s .queue) ≡ false
+not-queued x s h k = by-test (member x (s .queue)) (λ m. absurd (k (h .queued x m))) (λ m. m)
+
+pub queued-unreserved : (x : Slot) (s : State) → Sound s → member x (s .queue) ≡ true → hasReservation x s ≡ false
+queued-unreserved x s h m = not-reserved x s h (λ r. clash (h .marked x ∙ m) (r .unqueued))
 
 -- Closing, once the queue and the reservation are empty.
 pub sound-close : (s : State) → s .queue ≡ [] → s .reservation ≡ none → Sound s → Sound (close s)

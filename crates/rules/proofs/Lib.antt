@@ -3,6 +3,8 @@ pub mod Bools
 pub mod Clocks
 pub mod Keeping
 pub mod KeepsQueue
+pub mod KeepsScan
+pub mod KeepsTaking
 pub mod Laws
 pub mod Queues
 pub mod Slots
