@@ -1,9 +1,12 @@
 pub mod Batches
 pub mod Bools
 pub mod Clocks
+pub mod Decisions
+pub mod Departing
 pub mod Keeping
 pub mod KeepsQueue
 pub mod KeepsScan
+pub mod KeepsSteps
 pub mod KeepsTaking
 pub mod Laws
 pub mod Queues

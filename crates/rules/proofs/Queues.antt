@@ -79,6 +79,10 @@ no-slot p (suc n) i h = h (record { 0 = i }) nor no-slot p n (suc i) h
 pub member-append : (x : Slot) (p q : List Slot) → member x (p ++ q) ≡ member x p || member x q
 member-append x p q = any-append (sameSlot x) p q
 
+pub absent-empty : (x : Slot) (q : List Slot) → q ≡ [] → member x q ≡ false
+unfolding anyOf
+absent-empty x q e = ap (λ (l : List Slot). member x l) e
+
 -- x stands in the middle
 pub member-middle : (x : Slot) (p q : List Slot) → member x (p ++ x ∷ q) ≡ true
 unfolding anyOf
@@ -95,6 +99,10 @@ unfolding anyOf
 member-before y q x e = rw (apart-back x y e)
 
 -- Standing twice.
+
+pub once-empty : (q : List Slot) → q ≡ [] → twice q ≡ false
+unfolding twice
+once-empty q e = ap (λ (l : List Slot). twice l) e
 
 pub once-cons : (x : Slot) (q : List Slot) → member x q ≡ false → twice q ≡ false → twice (x ∷ q) ≡ false
 unfolding twice
