@@ -1,0 +1,45 @@
+-- The first n places of an array, each shown by a function: what a read, a store and a place more do, at any element type.
+use Prim.Native.Nat.{ℕ, zero, suc, _+_, _≤_, _<_}
+use native.Mathlib.Nat.{not-suc-le-zero, le-of-suc-le-suc}
+use native.Mathlib.Omega.{arith}
+use native.Mathlib.Numerals.{add-one}
+use mathlib.Core.Path.{_≡_, refl, sym, ap}
+use mathlib.Core.List.{List, [], _∷_, _++_, map, map-append}
+use lib.ListN.{length, getD, set, take, length-take, length-map, List·getD-eq-default}
+use lib.Seq.{set-out, take-set-lt, take-suc-set}
+
+module _ {A B : Type 0} (f : A → B) where
+  -- what owning an array of structs tells of its length
+  pub unmapped : (l : List A) (w : ℕ) → length (map f l) ≡ w → length l ≡ w
+  unmapped l w e = rw length-map at e
+
+  read : (n : ℕ) (l : List A) (i : ℕ) (a : A) (b : B) → i < n → i < length l → f (getD l i a) ≡ getD (map f (take n l)) i b
+  read n [] i a b h k = absurd (not-suc-le-zero k)
+  read zero (x ∷ l) i a b h k = absurd (not-suc-le-zero h)
+  read (suc n) (x ∷ l) zero a b h k = refl
+  read (suc n) (x ∷ l) (suc i) a b h k = read n l i a b (le-of-suc-le-suc h) (le-of-suc-le-suc k)
+
+  map-set : (l : List A) (i : ℕ) (a : A) → map f (set l i a) ≡ set (map f l) i (f a)
+  map-set [] i a = refl
+  map-set (x ∷ l) zero a = refl
+  map-set (x ∷ l) (suc i) a = ap (λ (r : List B). f x ∷ r) (map-set l i a)
+
+module _ {A B : Type 0} (f : A → B) (n : ℕ) (l : List A) where
+  short : (i : ℕ) → n ≤ i → length (map f (take n l)) ≤ i
+  short i h = simp (length-map, length-take) (omega arith)
+
+  -- whatever stands past the end
+  pub read-at : (i w : ℕ) (a : A) (b : B) → i < n → n ≤ w → length l ≡ w → f (getD l i a) ≡ getD (map f (take n l)) i b
+  read-at i w a b h k e = read f n l i a b h (omega arith)
+
+  pub read-past : (i : ℕ) (b c : B) → c ≡ b → n ≤ i → c ≡ getD (map f (take n l)) i b
+  read-past i b c e h = rw (e, List·getD-eq-default (map f (take n l)) b (short i h))
+
+  pub store-past : (i : ℕ) (b : B) → n ≤ i → map f (take n l) ≡ set (map f (take n l)) i b
+  store-past i b h = sym (set-out (map f (take n l)) i b (short i h))
+
+  pub store-at : (i : ℕ) (a : A) → i < n → map f (take n (set l i a)) ≡ set (map f (take n l)) i (f a)
+  store-at i a h = rw (take-set-lt n l i a h) (map-set f (take n l) i a)
+
+  pub store-next : (w : ℕ) (a : A) → n < w → length l ≡ w → map f (take (n + 1) (set l n a)) ≡ map f (take n l) ++ f a ∷ []
+  store-next w a h e = rw (add-one, take-suc-set l n a (omega arith)) (map-append f (take n l) (a ∷ []))
