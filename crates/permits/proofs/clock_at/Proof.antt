@@ -1,0 +1,72 @@
+-- A row is read, an entry a turn.
+use Prim.Native.Nat.{_≤_, _-_}
+use mathlib.Core.Path.{_≡_, refl}
+use borrow.Author.Needs.{needs}
+use lib.ListN.{length}
+use Rattle.rules.specs.Sizes.{width}
+use Rattle.clock.proofs.Filling.{filled}
+use Rattle.permits.specs.View.{row}
+use Rattle.permits.proofs.Rows.{reads-more, reads-whole}
+use Rattle.permits.proofs.clock_at.Statement.{statement}
+use Rattle.permits.proofs.clock_at.Tie as tie
+
+abbrev Inv-loop : tie.InvT-loop
+Inv-loop clocks place base out₀ j₀ out j = (j ≤ width) × (length (out .0) ≡ width) × (out .0 ≡ filled (out₀ .0) (row width clocks place) j)
+
+abbrev μ-loop : tie.MeasureT-loop
+μ-loop clocks place base out₀ j₀ out j = width - j
+
+mul-base : tie.Need-mul-base Inv-loop μ-loop
+mul-base c = search needs
+
+new-requires : tie.Need-new-requires Inv-loop μ-loop
+new-requires c κs = search needs
+
+loop-holds : tie.Need-loop-holds Inv-loop μ-loop
+loop-holds c = (search needs, search needs, refl)
+
+add-x : tie.Need-add-x Inv-loop μ-loop
+add-x c = search needs
+
+mul-x : tie.Need-mul-x Inv-loop μ-loop
+mul-x c = search needs
+
+element-copy-out-x : tie.Need-element-copy-out-x Inv-loop μ-loop
+element-copy-out-x c = search needs
+
+mul-out : tie.Need-mul-out Inv-loop μ-loop
+mul-out c = search needs
+
+element-write-out : tie.Need-element-write-out Inv-loop μ-loop
+element-write-out c = search needs
+
+add-j : tie.Need-add-j Inv-loop μ-loop
+add-j c = search needs
+
+loop-less : tie.Need-loop-less Inv-loop μ-loop
+loop-less c = search needs
+
+loop-again : tie.Need-loop-again Inv-loop μ-loop
+loop-again c = (search needs, search needs, search (reads-more, needs))
+
+returns : tie.Need-returns Inv-loop μ-loop
+returns c = search (reads-whole, needs)
+
+pub clock-at-spec : {M : Type 1} → statement M
+clock-at-spec =
+    tie.close
+    (tie.spec
+    Inv-loop
+    μ-loop
+    mul-base
+    new-requires
+    loop-holds
+    add-x
+    mul-x
+    element-copy-out-x
+    mul-out
+    element-write-out
+    add-j
+    loop-less
+    loop-again
+    returns)
