@@ -1,0 +1,38 @@
+-- What a queue of slots stands for, and what is said of one.
+use Prim.Native.Nat.{ℕ, suc, _+_, _≤_, _<_}
+use mathlib.Core.Path.{_≡_}
+use mathlib.Core.Bool.{Bool, true, false, cond, _||_}
+use mathlib.Core.List.{List, [], _∷_, _++_}
+use lib.ListN.{length, getD, take, drop}
+use Rattle.rules.specs.declared.Slot.{Slot}
+use Rattle.rules.specs.State.{sameSlot}
+use Rattle.rules.specs.Broken.{anyOf, member, twice, isBeyond}
+use Rattle.waiters.specs.declared.Waiters.{Waiters}
+use Rattle.waiters.specs.declared.Names.{Names}
+
+-- the first `len` places
+unfoldable pub waitersOf : Waiters → List Slot
+waitersOf w = take (w .len) (w .slots)
+
+-- what is read where no slot stands
+abbrev pub slot0 : Slot
+slot0 = record { 0 = 0 }
+
+-- where the slot first stands; the length where it does not
+unfoldable pub indexOf : Slot → List Slot → ℕ
+indexOf x [] = 0
+indexOf x (y ∷ q) = cond (sameSlot x y) 0 (suc (indexOf x q))
+
+-- the list without its element at i
+abbrev pub removeAt : ℕ → List Slot → List Slot
+removeAt i q = take i q ++ drop (i + 1) q
+
+-- a queue that fits its array and stands for q
+pub record Holds (w : Waiters) (q : List Slot) : Type 0 where
+  pub fits : w .len ≤ 32
+  pub view : waitersOf w ≡ q
+
+-- what is said of the slots that a queue names: wrong if one is beyond the slots or stands twice; else each is seen that is named
+pub record Named (r : Names) (q : List Slot) : Type 0 where
+  pub wrong : r .wrong ≡ (anyOf isBeyond q || twice q)
+  pub seen : r .wrong ≡ false → (k : ℕ) → k < 32 → getD (r .seen) k false ≡ member (record { 0 = k }) q
