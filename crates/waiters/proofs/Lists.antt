@@ -13,6 +13,8 @@ use Rattle.rules.specs.declared.Slot.{Slot}
 use Rattle.rules.specs.State.{sameSlot}
 use Rattle.rules.specs.Scan.{without}
 use Rattle.rules.specs.Broken.{anyOf, member, twice, isBeyond}
+use Rattle.rules.proofs.Bools.{by-test, clash, or-right}
+use Rattle.rules.proofs.Queues.{any-append, once-middle, once-snoc}
 use Rattle.waiters.specs.View.{waitersOf, indexOf, removeAt, Named}
 use Rattle.waiters.specs.declared.Waiters.{Waiters}
 
@@ -73,67 +75,15 @@ absent x (y ∷ q) h = absent-here x y q (sameSlot x y) (λ l. absent x q l) h
 
 -- ---- which slots are named
 
-or-assoc : (a b c : Bool) → (a || b) || c ≡ a || (b || c)
-or-assoc true b c = refl
-or-assoc false b c = refl
-
-pub any-append : {A : Type 0} (p : A → Bool) (xs ys : List A) → anyOf p (xs ++ ys) ≡ anyOf p xs || anyOf p ys
-unfolding anyOf
-any-append p [] ys = refl
-any-append p (x ∷ xs) ys = rw (any-append p xs ys) (sym (or-assoc (p x) (anyOf p xs) (anyOf p ys)))
-
-or-true : (a : Bool) → a || true ≡ true
-or-true true = refl
-or-true false = refl
-
-same-refl : (x : Slot) → sameSlot x x ≡ true
-same-refl x = eq-eqb (x .0) (x .0) refl
-
-member-mid : (y x : Slot) (p r : List Slot) → sameSlot x y ≡ true → member y (p ++ x ∷ r) ≡ true
-unfolding anyOf
-member-mid y x [] r e = rw (eq-eqb (y .0) (x .0) (sym (eqb-true (x .0) (y .0) e)))
-member-mid y x (z ∷ p) r e = rw (member-mid y x p r e) (or-true (sameSlot y z))
-
--- a slot that stands again, further on
-twice-here : (x y : Slot) (p r : List Slot) (b : Bool) → sameSlot x y ≡ b → (member x p ≡ true → twice (p ++ x ∷ r) ≡ true) → b || member x p ≡ true
-    → member y (p ++ x ∷ r) || twice (p ++ x ∷ r) ≡ true
-twice-here x y p r true e f h = rw (member-mid y x p r e)
-twice-here x y p r false e f h = rw (f h) (or-true (member y (p ++ x ∷ r)))
-
-pub twice-again : (x : Slot) (p r : List Slot) → member x p ≡ true → twice (p ++ x ∷ r) ≡ true
-unfolding anyOf twice
-twice-again x [] r h = let z : _≡_ {A = Bool} false true = h in absurd (no-false z)
-  where
-    no-false : _≡_ {A = Bool} false true → ⊥
-    no-false e = let n : _≡_ {A = ℕ} 0 1 = cc in omega arith
-twice-again x (y ∷ p) r h = twice-here x y p r (sameSlot x y) refl (λ k. twice-again x p r k) h
-
--- a new slot behind others: named twice only if they name one twice or name it
-or-swap : (a b c d : Bool) → (a || b) || (c || d) ≡ (a || c) || (b || d)
-or-swap true b c d = refl
-or-swap false true true d = refl
-or-swap false true false d = refl
-or-swap false false c d = refl
-
-same-sym : (x y : Slot) → sameSlot x y ≡ sameSlot y x
-same-sym x y = go (sameSlot x y) refl
-  where
-    go : (b : Bool) → sameSlot x y ≡ b → b ≡ sameSlot y x
-    go true e = sym (eq-eqb (y .0) (x .0) (sym (eqb-true (x .0) (y .0) e)))
-    go false e = sym (ne-eqb (y .0) (x .0) (λ f. eqb-false (x .0) (y .0) e (sym f)))
-
 or-false : (a : Bool) → a || false ≡ a
 or-false true = refl
 or-false false = refl
 
-pub twice-behind : (x : Slot) (p : List Slot) → twice (p ++ x ∷ []) ≡ twice p || member x p
-unfolding anyOf twice
-twice-behind x [] = refl
-twice-behind x (y ∷ p) =
-    rw (any-append (sameSlot y) p (x ∷ []), twice-behind x p, or-false (sameSlot y x), same-sym y x) (or-swap (member y p) (sameSlot x y) (twice p) (member x p))
-    ∙ ap (λ (b : Bool). (member y p || twice p) || b) refl
+-- a slot that stands again, further on
+twice-again : (x : Slot) (p r : List Slot) → member x p ≡ true → twice (p ++ x ∷ r) ≡ true
+twice-again x p r h = by-test (twice (p ++ x ∷ r)) (λ e. e) (λ e. clash h (once-middle p x r e .0))
 
--- ---- naming the slots one after another: after i of them, those seen are the slots of the first i, none beyond, none twice
+-- naming the slots one after another: after i of them, those seen are the slots of the first i, none beyond, none twice
 pub record Naming (l : List Slot) (i : ℕ) (m : List Bool) : Type 0 where
   pub long : length m ≡ 32
   pub seen : (k : ℕ) → k < 32 → getD m k false ≡ member (record { 0 = k }) (take i l)
@@ -157,14 +107,14 @@ module _ (l : List Slot) (i len : ℕ) (seen : List Bool) (d : Slot) (h : i < le
   pub one-beyond : 32 ≤ x .0 → anyOf isBeyond (take len l) || twice (take len l) ≡ true
   unfolding anyOf
   one-beyond b =
-      let e : anyOf isBeyond (take len l) ≡ true = rw (whole, any-append isBeyond (take i l) (x ∷ drop (suc i) (take len l)), le-leb 32 (x .0) b) (or-true (anyOf isBeyond (take i l))) in
+      let e : anyOf isBeyond (take len l) ≡ true = rw (whole, any-append isBeyond (take i l) (x ∷ drop (suc i) (take len l)), le-leb 32 (x .0) b) (or-right (anyOf isBeyond (take i l)) true refl) in
       rw e
 
   module _ (b : x .0 < 32) where
     pub one-again : getD seen (x .0) false ≡ true → anyOf isBeyond (take len l) || twice (take len l) ≡ true
     one-again e =
         let t : twice (take len l) ≡ true = rw whole (twice-again x (take i l) (drop (suc i) (take len l)) (sym (n .seen (x .0) b) ∙ e)) in
-        rw t (or-true (anyOf isBeyond (take len l)))
+        or-right (anyOf isBeyond (take len l)) (twice (take len l)) t
 
     marks : (k : ℕ) → k < 32 → getD (set seen (x .0) true) k false ≡ member (record { 0 = k }) (take i l ++ x ∷ [])
     unfolding anyOf
@@ -173,7 +123,7 @@ module _ (l : List Slot) (i len : ℕ) (seen : List Bool) (d : Slot) (h : i < le
         go : (c : Bool) → eqb k (x .0) ≡ c → getD (set seen (x .0) true) k false ≡ member (record { 0 = k }) (take i l) || (c || false)
         go true e =
             let f : k ≡ x .0 = eqb-true k (x .0) e in
-            rw (f, getD-set-same seen (x .0) true false (omega arith)) (sym (or-true (member (record { 0 = x .0 }) (take i l))))
+            rw (f, getD-set-same seen (x .0) true false (omega arith)) (sym (or-right (member (record { 0 = x .0 }) (take i l)) true refl))
         go false e = getD-set-other seen (x .0) k true false (eqb-false k (x .0) e) ∙ n .seen k l' ∙ sym (or-false (member (record { 0 = k }) (take i l)))
 
     pub one-more : getD seen (x .0) false ≡ false → Naming l (i + 1) (set seen (x .0) true)
@@ -183,7 +133,7 @@ module _ (l : List Slot) (i len : ℕ) (seen : List Bool) (d : Slot) (h : i < le
           long = length-set seen (x .0) true ∙ n .long;
           seen = λ k m. rw more (marks k m);
           sized = rw (more, any-append isBeyond (take i l) (x ∷ []), n .sized, lt-leb 32 (x .0) b);
-          once = rw (more, twice-behind x (take i l), n .once) (sym (n .seen (x .0) b) ∙ e);
+          once = rw more (once-snoc (take i l) x (n .once) (sym (n .seen (x .0) b) ∙ e));
         }
 
 pub naming-done : (w : Waiters) (i : ℕ) (seen : List Bool) → i ≡ w .len → Naming (w .slots) i seen → Named (record { seen = seen; wrong = false }) (waitersOf w)

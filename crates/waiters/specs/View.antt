@@ -1,18 +1,24 @@
--- What a queue of slots stands for, and what is said of one.
+-- What the queue and the reservation stand for, and what is said of them.
 use Prim.Native.Nat.{ℕ, suc, _+_, _≤_, _<_}
 use mathlib.Core.Path.{_≡_}
 use mathlib.Core.Bool.{Bool, true, false, cond, _||_}
 use mathlib.Core.List.{List, [], _∷_, _++_}
+use mathlib.Core.Option.{Option, none, some}
 use lib.ListN.{length, getD, take, drop}
 use Rattle.rules.specs.declared.Slot.{Slot}
 use Rattle.rules.specs.State.{sameSlot}
 use Rattle.rules.specs.Broken.{anyOf, member, twice, isBeyond}
 use Rattle.waiters.specs.declared.Waiters.{Waiters}
 use Rattle.waiters.specs.declared.Names.{Names}
+use Rattle.waiters.specs.declared.Reservation.{Reservation}
 
 -- the first `len` places
 unfoldable pub waitersOf : Waiters → List Slot
 waitersOf w = take (w .len) (w .slots)
+
+-- the slot that has the reservation, or none
+abbrev pub reservationOf : Reservation → Option Slot
+reservationOf r = cond (r .made) (some (r .slot)) none
 
 -- what is read where no slot stands
 abbrev pub slot0 : Slot

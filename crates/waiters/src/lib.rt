@@ -1,10 +1,13 @@
-// The queue of waiting requests, after the source's `VecDeque<Arc<Waiter>>`: slot numbers, in order.
+// Who waits, by slot number: the queue, after the source's `VecDeque<Arc<Waiter>>`, and the reservation, after its
+// `Option<Arc<Waiter>>`.
 ghost use mathlib.Core.Path.{_≡_};
 ghost use mathlib.Core.List.{[], _∷_, _++_};
+ghost use mathlib.Core.Option.{none, some};
 ghost use Prim.Native.Nat.{_+_, _-_, _≤_, _<_};
 ghost use lib.ListN.{length, getD, take, drop};
+ghost use Rattle.rules.specs.State.{isThe};
 ghost use Rattle.rules.specs.Scan.{without};
-ghost use Rattle.waiters.specs.View.{waitersOf, slot0, indexOf, removeAt, Holds, Named};
+ghost use Rattle.waiters.specs.View.{waitersOf, slot0, indexOf, removeAt, Holds, Named, reservationOf};
 use rules::Slot;
 
 pub struct Waiters {
@@ -12,10 +15,46 @@ pub struct Waiters {
     pub len: usize,
 }
 
+// The slot that has the reservation, if one was made.
+pub struct Reservation {
+    pub made: bool,
+    pub slot: Slot,
+}
+
 // Which slots a queue names, and whether it names one of 32 or more, or one twice.
 pub struct Names {
     pub seen: [bool; 32],
     pub wrong: bool,
+}
+
+impl Reservation {
+    pub fn none() -> Reservation
+        ensures { λ r. ⌜ reservationOf r ≡ none ⌝ }
+    {
+        Reservation {
+            made: false,
+            slot: Slot(0),
+        }
+    }
+
+    pub fn of(x: Slot) -> Reservation
+        ensures { λ r. ⌜ reservationOf r ≡ some x ⌝ }
+    {
+        Reservation {
+            made: true,
+            slot: x,
+        }
+    }
+
+    // Whether the slot has the reservation.
+    pub fn is_of(self, x: Slot) -> bool
+        ensures { λ r. ⌜ r ≡ isThe x (reservationOf self) ⌝ }
+    {
+        if self.made {
+            return x.0 == self.slot.0;
+        }
+        false
+    }
 }
 
 impl Waiters {
