@@ -1,6 +1,7 @@
 pub mod Batches
 pub mod Bools
 pub mod Clocks
+pub mod Decimal
 pub mod Decisions
 pub mod Departing
 pub mod Keeping
@@ -9,8 +10,12 @@ pub mod KeepsScan
 pub mod KeepsSteps
 pub mod KeepsTaking
 pub mod Laws
+pub mod Naming
+pub mod Parts
 pub mod Queues
+pub mod Scripts
 pub mod Slots
 pub mod Soundness
 pub mod Starred
 pub mod Tasks
+pub mod Worked

@@ -14,3 +14,5 @@ pub mod Broken
 pub mod Sound
 pub mod Points
 pub mod Runs
+pub mod Text
+pub mod Script
