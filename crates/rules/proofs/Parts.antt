@@ -56,10 +56,10 @@ parts-last b (c ∷ cs) h = by-test (eqb c b) (parts-last b cs) h
     by-test false r l = ap (onFirst c) (r (omega arith))
 
 -- there is always a part
-front : (b : ℕ) (s : List ℕ) → parts b s ≡ before b s ∷ drop 1 (parts b s)
+pub parts-front : (b : ℕ) (s : List ℕ) → parts b s ≡ before b s ∷ drop 1 (parts b s)
 unfolding before parts
-front b [] = refl
-front b (c ∷ cs) = by-test (eqb c b) (front b cs)
+parts-front b [] = refl
+parts-front b (c ∷ cs) = by-test (eqb c b) (parts-front b cs)
   where
     by-test : (t : Bool) → parts b cs ≡ before b cs ∷ drop 1 (parts b cs) → cond t ([] ∷ parts b cs) (onFirst c (parts b cs)) ≡ cond t [] (c ∷ before b cs) ∷ drop 1 (cond t ([] ∷ parts b cs) (onFirst c (parts b cs)))
     by-test true r = refl
@@ -68,7 +68,7 @@ front b (c ∷ cs) = by-test (eqb c b) (front b cs)
 -- Joined again, the parts are the bytes that they were taken from.
 joined-hit : (b : ℕ) (s : List ℕ) → joinedBy b ([] ∷ parts b s) ≡ b ∷ joinedBy b (parts b s)
 unfolding joinedBy
-joined-hit b s = rw (front b s)
+joined-hit b s = rw (parts-front b s)
 
 joined-miss : (b c : ℕ) (ps : List (List ℕ)) → joinedBy b (onFirst c ps) ≡ c ∷ joinedBy b ps
 unfolding joinedBy
@@ -124,7 +124,7 @@ module _ (b : ℕ) (s : List ℕ) (at e : ℕ) (ends : e ≡ at + length (before
 -- a line feed behind a line ends it
 ended : (p : List ℕ) (b : ℕ) (s : List ℕ) → linesOf (p ∷ parts b s) ≡ record { content = p; ended = true } ∷ linesOf (parts b s)
 unfolding linesOf
-ended p b s = rw (front b s)
+ended p b s = rw (parts-front b s)
 
 unended : (p : List ℕ) → 0 < length p → linesOf (p ∷ []) ≡ record { content = p; ended = false } ∷ []
 unfolding linesOf
