@@ -7,8 +7,7 @@ use mathlib.Core.Option.{Option, none, some}
 use lib.Dec.{leb}
 use lib.ListN.{length, take, drop}
 use Rattle.rules.specs.Sizes.{largest}
-use Rattle.rules.specs.Text.{before, fields, Line, lines, allDigits, valueFrom}
-use Rattle.rules.specs.Script.{_>>=_, numbersOf}
+use Rattle.rules.specs.Text.{space, before, fields, Line, lines, allDigits, valueFrom, numberOf}
 use Rattle.text.specs.declared.Number.{Number}
 use Rattle.text.specs.declared.Number.the-variants.{Is, Not}
 use Rattle.text.specs.declared.Reading.{Reading}
@@ -36,23 +35,21 @@ told Not = none
 unfoldable pub numberFrom : ℕ → List ℕ → Option ℕ
 numberFrom n f = cond (allDigits f && leb (valueFrom n f) largest) (some (valueFrom n f)) none
 
--- the numbers of a line's fields that begin with what was read
-abbrev pub numbersFrom : List ℕ → Reading → Option (List ℕ)
-numbersFrom line (Last n) = some (n ∷ [])
-numbersFrom line (Then n next) = do
-  ns ← numbersOf (fields (drop next line))
-  some (n ∷ ns)
-numbersFrom line Other = none
+-- the number that was read
+abbrev pub numberRead : Reading → Option ℕ
+numberRead (Last n) = some n
+numberRead (Then n next) = some n
+numberRead Other = none
 
--- the place of the next field lies within the line
-abbrev pub Onward : List ℕ → Reading → Type 0
-Onward line (Last n) = Unit {0}
-Onward line (Then n next) = next ≤ length line
-Onward line Other = Unit {0}
+-- the fields from a place on: the one that was read, and those behind it
+abbrev pub Behind : List ℕ → ℕ → Reading → Type 0
+Behind line at (Last n) = fields (drop at line) ≡ before space (drop at line) ∷ []
+Behind line at (Then n next) = (fields (drop at line) ≡ before space (drop at line) ∷ fields (drop next line)) × (next ≤ length line)
+Behind line at Other = Unit {0}
 
 pub record ReadAt (line : List ℕ) (at : ℕ) (r : Reading) : Type 0 where
-  pub numbers : numbersOf (fields (drop at line)) ≡ numbersFrom line r
-  pub onward : Onward line r
+  pub says : numberOf (before space (drop at line)) ≡ numberRead r
+  pub behind : Behind line at r
 
 -- the lines of a script that begin with what was found
 abbrev pub linesFrom : List ℕ → ℕ → NextLine → List Line

@@ -1,0 +1,4 @@
+pub mod Letters
+pub mod Onward
+pub mod Within
+pub mod FirstLine
