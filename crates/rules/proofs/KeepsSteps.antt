@@ -62,16 +62,20 @@ lowest-free (some r ∷ rs) = lowest-free rs
 abbrev pub MayMake : Ask → State → Type 0
 MayMake a s = a .reserving ≡ true → (strict s ≡ false) × (0 < a .asked) × (a .least ≤ a .asked)
 
+-- the slot that a new request takes
+abbrev pub newSlot : State → Slot
+newSlot s = record { 0 = lowestFree (s .slots) }
+
+pub new-unused : (s : State) → inUse (newSlot s) s ≡ false
+new-unused s = ap (λ (o : Option Request). isSome o) (lowest-free (s .slots))
+
+pub new-unqueued : (s : State) → Sound s → member (newSlot s) (s .queue) ≡ false
+new-unqueued s h = not-queued (newSlot s) s h (λ w. clash (w .used) (new-unused s))
+
 pub sound-make : (t : TaskId) (a : Ask) (s : State) → HasSlot s → MayMake a s → Sound s → Sound (make t a s .state)
 unfolding make
 sound-make t a s l m h =
-    sound-filled x _ s l (not-queued x s h (λ w. clash (w .used) unused)) (not-reserved x s h (λ r. clash (r .waits .used) unused)) refl m h
-  where
-    x : Slot
-    x = record { 0 = lowestFree (s .slots) }
-
-    unused : inUse x s ≡ false
-    unused = ap (λ (o : Option Request). isSome o) (lowest-free (s .slots))
+    sound-filled (newSlot s) _ s l (new-unqueued s h) (not-reserved (newSlot s) s h (λ r. clash (r .waits .used) (new-unused s))) refl m h
 
 pub plain-made : (k : Priority) (n : ℕ) (s : State) → MayMake (plainAsk k n) s
 plain-made k n s r = absurd (false≢true r)
@@ -162,17 +166,18 @@ sound-try Take t n s f h = sound-roused (reblocks t (takeAs t n s)) (sound-take 
 
 -- Release.
 
+pub sound-added : (t : TaskId) (n : ℕ) (s : State) → Releasable t n s → eqb n 0 ≡ false → Sound s → Sound (addReleased t n s)
+sound-added t n s k e h =
+    let d : n ≡ 0 → ⊥ = eqb-false n 0 e in
+    let l : 0 < n = omega arith in
+    sound-permits _ _ (sound-adding n _ (s .permits) l (k .room l) (h .permits)) (sound-alter-task t (ticked t) s h)
+
 pub sound-release : (t : TaskId) (n : ℕ) (s : State) → Releasable t n s → Sound s → Sound (release t n s .state)
 unfolding release
 sound-release t n s k h =
     by-cond (λ (g : Granting). Sound (g .state)) (eqb n 0) (λ e. h) (λ e.
-    by-cond (λ (g : Granting). Sound (g .state)) (strict (addReleased t n s)) (λ f. sound-scan _ (added e)) (λ f. sound-wake _ (added e)))
-  where
-    added : eqb n 0 ≡ false → Sound (addReleased t n s)
-    added e =
-        let d : n ≡ 0 → ⊥ = eqb-false n 0 e in
-        let l : 0 < n = omega arith in
-        sound-permits _ _ (sound-adding n _ (s .permits) l (k .room l) (h .permits)) (sound-alter-task t (ticked t) s h)
+    let a = sound-added t n s k e h in
+    by-cond (λ (g : Granting). Sound (g .state)) (strict (addReleased t n s)) (λ f. sound-scan _ a) (λ f. sound-wake _ a))
 
 -- Drop.
 
@@ -274,7 +279,7 @@ sound-closing s h =
 
 -- Every step.
 
-take-fits : (k : Priority) (n : ℕ) (s : State) → direct k n s ≡ Take → n ≤ stock s
+pub take-fits : (k : Priority) (n : ℕ) (s : State) → direct k n s ≡ Take → n ≤ stock s
 take-fits k n s e = subst (λ (d : Direct). DirectSays d k n s) e (direct-says k n s) .3
 
 sound-act : (t : TaskId) (a : Act) (s : State) → t .0 < length (s .tasks) → Allowed t a s → Sound s → Sound (effectOf t a s .state)

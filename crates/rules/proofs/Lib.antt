@@ -2,6 +2,7 @@ pub mod Batches
 pub mod Bools
 pub mod Clocks
 pub mod Decimal
+pub mod Conservation
 pub mod Decisions
 pub mod Departing
 pub mod Keeping
@@ -17,5 +18,7 @@ pub mod Scripts
 pub mod Slots
 pub mod Soundness
 pub mod Starred
+pub mod Stranded
 pub mod Tasks
 pub mod Worked
+pub mod Unchanged

@@ -14,6 +14,7 @@ use Rattle.rules.specs.Sizes.{slotCount}
 use Rattle.rules.specs.Request.{Request, noRequest}
 use Rattle.rules.specs.State.{State, isSome, sameSlot, inUse, requestAt, alterRequest, withSlots}
 use Rattle.rules.proofs.Bools.{clash}
+use Rattle.rules.proofs.Queues.{by-slot}
 
 -- the request in a slot, or nothing
 abbrev pub slotAt : Slot → State → Option Request
@@ -99,3 +100,10 @@ field-set g v x f s h k = ap (λ (o : Option Request). g (Option·getD o noReque
     go : (o : Option Request) → g (Option·getD (Option·map f o) noRequest) ≡ v
     go none = k
     go (some r) = h r
+
+-- a change that keeps every ask
+pub asks-altered : (x : Slot) (f : Request → Request) (s : State) → ((r : Request) → f r .ask ≡ r .ask)
+    → (y : Slot) → requestAt y (alterRequest x f s) .ask ≡ requestAt y s .ask
+asks-altered x f s h =
+    by-slot (λ y. requestAt y (alterRequest x f s) .ask ≡ requestAt y s .ask) x (field-altered (λ (r : Request). r .ask) x f s h)
+    (λ y e. ap (λ (o : Option Request). Option·getD o noRequest .ask) (altered-beside x y f s e))

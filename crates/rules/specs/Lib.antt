@@ -16,3 +16,4 @@ pub mod Points
 pub mod Runs
 pub mod Text
 pub mod Script
+pub mod Promises

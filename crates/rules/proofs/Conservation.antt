@@ -1,0 +1,175 @@
+-- Conservation: what a step takes from the stock it grants, and what it adds was released or given up.
+use Prim.Native.Nat.{ℕ, _+_, _-_, _≤_}
+use native.Mathlib.Omega.{arith}
+use mathlib.Core.Path.{_≡_, refl, sym, ap, _∙_}
+use mathlib.Core.Bool.{Bool, cond, not, _&&_, _||_}
+use mathlib.Core.List.{List, [], _∷_, _++_}
+use mathlib.Core.Option.{Option, none, some}
+use borrow.Author.Tests.{eqb-true}
+use lib.Dec.{eqb}
+use Rattle.rules.specs.declared.TaskId.{TaskId}
+use Rattle.rules.specs.declared.Slot.{Slot}
+use Rattle.rules.specs.declared.Grant.{Grant}
+use Rattle.rules.specs.declared.Priority.the-variants.{Back, Front}
+use Rattle.rules.specs.declared.Direct.{Direct}
+use Rattle.rules.specs.declared.Direct.the-variants.{Shut, NoPermits, Take}
+use Rattle.rules.specs.declared.Polling.{Polling}
+use Rattle.rules.specs.declared.Polling.the-variants.{Holds, IsClosed, Stays, QueuesBack, QueuesFront, TakesReserved, Takes, Reserves}
+use Rattle.rules.specs.declared.Dropping.{Dropping}
+use Rattle.rules.specs.declared.Dropping.the-variants.{Leaving, Unreserving, Returning, Nothing}
+use Rattle.rules.specs.declared.Act.{Act}
+use Rattle.rules.specs.declared.Act.the-variants.{Acquire, AcquireBypassable, AcquireReserving, Upgrade, Poll, Try, TryUpgrade, Release, Drop, Close, Sleep, Finish}
+use Rattle.rules.specs.declared.Step.{Step}
+use Rattle.rules.specs.State.{Permits, State, strict, stock, requestAt, askedAt, withReservation, alterRequest}
+use Rattle.rules.specs.Taking.{takeAs, adding, direct}
+use Rattle.rules.specs.Scan.{Granting, leave, queueGrant, walk, scan}
+use Rattle.rules.specs.Polling.{polling, pollWork, pollGrants, pollMark, polled}
+use Rattle.rules.specs.Steps.{make, tryBy, poll, addReleased, release, dropping, isFirst, frontBypassable, dropQueued, dropWork, dropRequest, effectOf}
+use Rattle.rules.specs.Refusals.{refusal, returned}
+use Rattle.rules.specs.Runs.{step, unless, run}
+use Rattle.rules.specs.Promises.{counts, grantedIn, releases, givesUp, unlessRefused, overRun, releasedIn, givenUpIn}
+use Rattle.rules.specs.Sound.{Sound}
+use Rattle.rules.proofs.Bools.{by-cond}
+use Rattle.rules.proofs.Tasks.{reblocks}
+use Rattle.rules.proofs.KeepsQueue.{has-reservation}
+use Rattle.rules.proofs.KeepsTaking.{take-stock}
+use Rattle.rules.proofs.KeepsScan.{by-walk, granted-stock}
+use Rattle.rules.proofs.Decisions.{PollSays, poll-says, DropSays, drop-says}
+use Rattle.rules.proofs.Unchanged.{Untouched, untouched-roused, untouched-wake, untouched-closing}
+use Rattle.rules.proofs.KeepsSteps.{take-fits, sound-step}
+
+pub counts-append : (gs hs : List Grant) → counts (gs ++ hs) ≡ counts gs + counts hs
+unfolding counts
+counts-append [] hs = omega arith
+counts-append (g ∷ gs) hs = omega (arith, counts-append gs hs)
+
+pub counts-one : (g : Grant) → counts (g ∷ []) ≡ g .count
+unfolding counts
+counts-one g = omega arith
+
+stock-of : {s b : State} → Untouched s b → stock b ≡ stock s
+stock-of u = ap (λ (p : Permits). p .stock) (u .permits)
+
+-- A scan grants what it takes.
+pub walk-grants : (q : List Slot) (s : State) (gs : List Grant) → stock (walk q s gs .state) + counts (walk q s gs .grants) ≡ stock s + counts gs
+walk-grants q s gs =
+    by-walk {P = λ l b hs. stock b + counts hs ≡ stock s + counts gs} {R = λ g. stock (g .state) + counts (g .grants) ≡ stock s + counts gs}
+    (
+    record {
+      leaves = λ x l b hs k e. e;
+      fits = λ x l b hs k e. omega (arith, k .1, granted-stock x b, counts-append hs (queueGrant x b ∷ []), counts-one (queueGrant x b));
+      passed = λ x l b hs k e. e;
+      ends = λ x l b hs k e. e;
+      over = λ b hs e. e;
+    }
+    )
+    q s gs refl
+
+pub scan-grants : (s : State) → stock (scan s .state) + counts (scan s .grants) ≡ stock s
+unfolding scan counts
+scan-grants s = walk-grants (s .queue) s [] ∙ omega arith
+
+-- Each step: the stock and what it grants are the stock before and what it brings.
+
+abbrev Balance : State → ℕ → List Grant → State → Type 0
+Balance s n gs b = stock b + counts gs ≡ stock s + n
+
+-- nothing granted, nothing brought
+balanced : {m n : ℕ} → n ≡ m → n + counts [] ≡ m + 0
+unfolding counts
+balanced e = omega arith
+
+-- taken and granted
+balanced-taking : (g : Grant) {m n : ℕ} → g .count ≤ m → n ≡ m - g .count → n + counts (g ∷ []) ≡ m + 0
+balanced-taking g l e = omega (arith, counts-one g)
+
+release-balance : (t : TaskId) (n : ℕ) (s : State) → Balance s n (release t n s .grants) (release t n s .state)
+unfolding release adding counts
+release-balance t n s =
+    by-cond (λ (g : Granting). Balance s n (g .grants) (g .state)) (eqb n 0)
+    (λ e. let z = eqb-true n 0 e in omega arith)
+    (λ e.
+    by-cond (λ (g : Granting). Balance s n (g .grants) (g .state)) (strict (addReleased t n s))
+    (λ f. omega (arith, scan-grants (addReleased t n s)))
+    (λ f. omega (arith, stock-of (untouched-wake (addReleased t n s)))))
+
+poll-balance : (p : Polling) (t : TaskId) (x : Slot) (s : State) → PollSays p x s
+    → Balance s 0 (pollGrants p t x s) (alterRequest x (pollMark (polled p) t) (pollWork p t x s))
+unfolding pollWork
+poll-balance Holds t x s k = balanced refl
+poll-balance IsClosed t x s k = balanced refl
+poll-balance Stays t x s k = balanced refl
+poll-balance QueuesBack t x s k = balanced refl
+poll-balance QueuesFront t x s k = balanced refl
+poll-balance TakesReserved t x s k =
+    let a = withReservation none s in
+    balanced-taking _ (k .0 .fits) (stock-of (untouched-wake (takeAs t (askedAt x s) a)) ∙ take-stock t (askedAt x s) a)
+poll-balance Takes t x s k =
+    balanced-taking _ (k .fits) (stock-of (untouched-roused (reblocks t (leave x (takeAs t (askedAt x s) s)))) ∙ take-stock t (askedAt x s) s)
+poll-balance Reserves t x s k = balanced (stock-of (untouched-roused (reblocks t (withReservation (some x) (leave x s)))))
+
+try-balance : (d : Direct) (t : TaskId) (n : ℕ) (s : State) → (d ≡ Take → n ≤ stock s) → Balance s 0 (tryBy d t n s .grants) (tryBy d t n s .state)
+unfolding tryBy
+try-balance Shut t n s k = balanced refl
+try-balance NoPermits t n s k = balanced refl
+try-balance Take t n s k = balanced-taking _ (k refl) (stock-of (untouched-roused (reblocks t (takeAs t n s))) ∙ take-stock t n s)
+
+-- what a drop brings: the permits of a holder that had not completed
+drop-balance : (d : Dropping) (t : TaskId) (x : Slot) (s : State) → Balance s (returned d (askedAt x s)) (dropWork d t x s .grants) (dropWork d t x s .state)
+unfolding dropWork dropQueued
+drop-balance Leaving t x s =
+    by-cond (λ (g : Granting). Balance s 0 (g .grants) (g .state)) (strict s && (isFirst x (s .queue) || frontBypassable (leave x s .queue) (leave x s)))
+    (λ e. omega (arith, scan-grants (leave x s)))
+    (λ e. balanced refl)
+drop-balance Unreserving t x s = balanced (stock-of (untouched-wake (withReservation none s)))
+drop-balance Returning t x s = release-balance t (askedAt x s) s
+drop-balance Nothing t x s = balanced refl
+
+-- by the marks of the request alone
+gives-back : (d : Dropping) (x : Slot) (s : State) → Sound s → DropSays d x s
+    → returned d (askedAt x s) ≡ cond (requestAt x s .holding && not (requestAt x s .completed)) (askedAt x s) 0
+gives-back Leaving x s h k = let w = h .queued x (sym (h .marked x) ∙ k) in ap (λ (b : Bool). cond (b && not (requestAt x s .completed)) (askedAt x s) 0) (sym (w .holding))
+gives-back Unreserving x s h k =
+    let r = h .reserves x (has-reservation x s (k .1)) in
+    ap (λ (b : Bool). cond (b && not (requestAt x s .completed)) (askedAt x s) 0) (sym (r .waits .holding))
+gives-back Returning x s h k =
+    sym (ap (λ (b : Bool). cond (b && not (requestAt x s .completed)) (askedAt x s) 0) (k .2) ∙ ap (λ (b : Bool). cond (not b) (askedAt x s) 0) (k .3))
+gives-back Nothing x s h k = sym (ap (λ (b : Bool). cond b (askedAt x s) 0) (k .2))
+
+act-balance : (t : TaskId) (a : Act) (s : State) → Sound s → Balance s (releases a + givesUp a s) (effectOf t a s .grants) (effectOf t a s .state)
+unfolding effectOf make poll dropRequest
+act-balance t (Acquire n) s h = balanced refl
+act-balance t (AcquireBypassable n) s h = balanced refl
+act-balance t (AcquireReserving least n) s h = balanced refl
+act-balance t (Upgrade held wanted) s h = balanced refl
+act-balance t (Poll x) s h = poll-balance (polling x s) t x s (poll-says x s)
+act-balance t (Try n) s h = try-balance (direct Back n s) t n s (take-fits Back n s)
+act-balance t (TryUpgrade held wanted) s h =
+    try-balance (direct Front (wanted - held) s) t (wanted - held) s (take-fits Front (wanted - held) s)
+act-balance t (Release n) s h = omega (arith, release-balance t n s)
+act-balance t (Drop x) s h = omega (arith, drop-balance (dropping x s) t x s, gives-back (dropping x s) x s h (drop-says x s))
+act-balance t Close s h = balanced (stock-of (untouched-closing s))
+act-balance t Sleep s h = balanced refl
+act-balance t Finish s h = balanced refl
+
+pub step-balance : (a : Step) (s : State) → Sound s
+    → stock (step a s .state) + counts (step a s .grants) ≡ stock s + unlessRefused (refusal a s) (releases (a .act) + givesUp (a .act) s)
+unfolding step
+step-balance a s h = go (refusal a s)
+  where
+    go : (o : Option ℕ) → Balance s (unlessRefused o (releases (a .act) + givesUp (a .act) s)) (unless o a s .grants) (unless o a s .state)
+    go none = act-balance (a .actor) (a .act) s h
+    go (some n) = balanced refl
+
+-- a sum over the steps is the sum of its two parts
+unless-sum : (o : Option ℕ) (m n : ℕ) → unlessRefused o (m + n) ≡ unlessRefused o m + unlessRefused o n
+unless-sum none m n = refl
+unless-sum (some r) m n = refl
+
+pub run-balance : (as′ : List Step) (s : State) → Sound s
+    → stock (run as′ s .state) + grantedIn (run as′ s .said) ≡ stock s + (releasedIn as′ s + givenUpIn as′ s)
+unfolding run grantedIn overRun
+run-balance [] s h = omega arith
+run-balance (a ∷ as′) s h =
+    let b = step a s .state in
+    omega (arith, run-balance as′ b (sound-step a s h), step-balance a s h, unless-sum (refusal a s) (releases (a .act)) (givesUp (a .act) s))
