@@ -5,6 +5,7 @@ pub mod Decimal
 pub mod Conservation
 pub mod Decisions
 pub mod Departing
+pub mod Eaches
 pub mod Keeping
 pub mod KeepsQueue
 pub mod KeepsScan
@@ -13,6 +14,7 @@ pub mod KeepsTaking
 pub mod Laws
 pub mod Naming
 pub mod Parts
+pub mod PassedOver
 pub mod Queues
 pub mod Scripts
 pub mod Slots

@@ -140,8 +140,13 @@ pub record Served (s : State) : Type 0 where
   pub nobody : AskTooMuch (s .queue) s
 
 -- on a strictly fair semaphore nobody reserves, and there is no reservation
-plain : {s : State} → Served s → (x : Slot) → requestAt x s .ask .reserving ≡ false
+pub plain : {s : State} → Served s → (x : Slot) → requestAt x s .ask .reserving ≡ false
 plain {s} v x = by-test (requestAt x s .ask .reserving) (λ r. clash (v .strictly) (v .sound .made x r .unfair)) (λ r. r)
+
+-- and who takes by a poll is not queued
+pub taker-unqueued : {s : State} (v : Served s) (x : Slot) → Taking false x s → requestAt x s .queued ≡ false
+taker-unqueued {s} v x k =
+    by-test (requestAt x s .queued) (λ q. clash (ap (λ (b : Bool). b && strict s) q ∙ v .strictly) (k .plain (plain v x))) (λ q. q)
 
 no-reservation : {s : State} → Served s → s .reservation ≡ none
 no-reservation {s} v = go (s .reservation) refl
@@ -224,16 +229,12 @@ module _ (s : State) (v : Served s) where
   poll-serves Takes t x k =
       let a = takeAs t (askedAt x s) s in
       let r = reblocks t (leave x a) in
-      let out = no-more-take t (askedAt x s) s .queue x (sym (v .sound .marked x) ∙ unqueued k) in
+      let out = no-more-take t (askedAt x s) s .queue x (sym (v .sound .marked x) ∙ taker-unqueued v x k) in
       quieter-serves
       (quieter-then (quieter-taken t (askedAt x s) s)
       (quieter-then (quieter-left x a out)
       (quieter-then (quieter-roused r) (quieter-altered x polledGranted (reblock t (leave x a)) (λ q. refl)))))
       (v .nobody)
-    where
-      unqueued : Taking false x s → requestAt x s .queued ≡ false
-      unqueued k =
-          by-test (requestAt x s .queued) (λ q. clash (ap (λ (b : Bool). b && strict s) q ∙ v .strictly) (k .plain (plain v x))) (λ q. q)
   poll-serves Reserves t x k = clash (k .reserving) (plain v x)
 
   try-serves : (d : Direct) (t : TaskId) (n : ℕ) → AskTooMuch (tryBy d t n s .state .queue) (tryBy d t n s .state)

@@ -1,0 +1,39 @@
+-- Laws on a property that each element of a list has.
+use Prim.Native.Nat.{ℕ, zero, suc}
+use mathlib.Core.List.{List, [], _∷_, _++_}
+use lib.ListN.{getD, set, take, drop, replicate}
+use Rattle.rules.specs.Promises.{Each}
+
+module _ {A : Type 0} (P : A → Type 0) where
+  pub each-append : (xs ys : List A) → Each P xs → Each P ys → Each P (xs ++ ys)
+  each-append [] ys h k = k
+  each-append (x ∷ xs) ys h k = (h .0, each-append xs ys (h .1) k)
+
+  pub each-set : (xs : List A) (i : ℕ) (x : A) → Each P xs → P x → Each P (set xs i x)
+  each-set [] i x h k = tt
+  each-set (y ∷ xs) zero x h k = (k, h .1)
+  each-set (y ∷ xs) (suc i) x h k = (h .0, each-set xs i x (h .1) k)
+
+  pub each-at : (xs : List A) (i : ℕ) (d : A) → Each P xs → P d → P (getD xs i d)
+  each-at [] i d h k = k
+  each-at (x ∷ xs) zero d h k = h .0
+  each-at (x ∷ xs) (suc i) d h k = each-at xs i d (h .1) k
+
+  pub each-take : (n : ℕ) (xs : List A) → Each P xs → Each P (take n xs)
+  each-take zero xs h = tt
+  each-take (suc n) [] h = tt
+  each-take (suc n) (x ∷ xs) h = (h .0, each-take n xs (h .1))
+
+  pub each-drop : (n : ℕ) (xs : List A) → Each P xs → Each P (drop n xs)
+  each-drop zero xs h = h
+  each-drop (suc n) [] h = tt
+  each-drop (suc n) (x ∷ xs) h = each-drop n xs (h .1)
+
+  pub each-replicate : (n : ℕ) (x : A) → P x → Each P (replicate n x)
+  each-replicate zero x h = tt
+  each-replicate (suc n) x h = (h, each-replicate n x h)
+
+-- a weaker property
+pub each-weaker : {A : Type 0} (P Q : A → Type 0) → ((x : A) → P x → Q x) → (xs : List A) → Each P xs → Each Q xs
+each-weaker P Q f [] h = tt
+each-weaker P Q f (x ∷ xs) h = (f x (h .0), each-weaker P Q f xs (h .1))

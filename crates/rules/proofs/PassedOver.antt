@@ -1,0 +1,238 @@
+-- Who is passed over: watching a step's grants changes none of them, and at each of them only Bypassable requests of unfinished tasks that ask for
+-- more than the stock stand ahead in the queue.
+use Prim.Native.Nat.{ℕ, _-_}
+use native.Mathlib.Omega.{arith}
+use mathlib.Core.Path.{_≡_, refl, sym, ap, subst, _∙_}
+use mathlib.Core.Bool.{Bool, true, false, cond, _&&_, _||_}
+use mathlib.Core.List.{List, [], _∷_, _++_, map, head-eq-of-cons-eq, tail-eq-of-cons-eq}
+use mathlib.Core.Option.{Option, none, some}
+use lib.Dec.{eqb}
+use Rattle.rules.specs.declared.TaskId.{TaskId}
+use Rattle.rules.specs.declared.Slot.{Slot}
+use Rattle.rules.specs.declared.Grant.{Grant}
+use Rattle.rules.specs.declared.Taker.the-variants.{BySlot, ByTry}
+use Rattle.rules.specs.declared.Verdict.{Verdict}
+use Rattle.rules.specs.declared.Verdict.the-variants.{Leaves, Fits, Passed, Ends}
+use Rattle.rules.specs.declared.Direct.{Direct}
+use Rattle.rules.specs.declared.Direct.the-variants.{Shut, NoPermits, Take}
+use Rattle.rules.specs.declared.Polling.{Polling}
+use Rattle.rules.specs.declared.Polling.the-variants.{Holds, IsClosed, Stays, QueuesBack, QueuesFront, TakesReserved, Takes, Reserves}
+use Rattle.rules.specs.declared.Dropping.{Dropping}
+use Rattle.rules.specs.declared.Dropping.the-variants.{Leaving, Unreserving, Returning, Nothing}
+use Rattle.rules.specs.declared.Priority.the-variants.{Back, Front}
+use Rattle.rules.specs.declared.Act.{Act}
+use Rattle.rules.specs.declared.Act.the-variants.{Acquire, AcquireBypassable, AcquireReserving, Upgrade, Poll, Try, TryUpgrade, Release, Drop, Close, Sleep, Finish}
+use Rattle.rules.specs.declared.Step.{Step}
+use Rattle.rules.specs.State.{State, strict, sameSlot, askedAt}
+use Rattle.rules.specs.Taking.{direct}
+use Rattle.rules.specs.Scan.{Granting, leave, verdict, grantQueued, queueGrant, turn, walk, scan}
+use Rattle.rules.specs.Polling.{polling, pollGrants}
+use Rattle.rules.specs.Steps.{make, tryBy, poll, addReleased, release, dropping, isFirst, frontBypassable, dropQueued, dropWork, dropRequest, effectOf}
+use Rattle.rules.specs.Refusals.{returned, refusal}
+use Rattle.rules.specs.Runs.{Said, unless, step, run}
+use Rattle.rules.specs.Broken.{anyOf, member, twice}
+use Rattle.rules.specs.Sound.{Sound}
+use Rattle.rules.specs.Promises.{Each, Moment, Watched, watchTurn, watchWalk, watchScan, watchRelease, watchDrop, watchAct, unlessRefusedMoments, watchRun, PassesOnlySuch}
+use Rattle.rules.proofs.Bools.{by-cond, clash, neither, or-left}
+use Rattle.rules.proofs.Queues.{slot-same, member-middle, once-middle}
+use Rattle.rules.proofs.Eaches.{each-append}
+use Rattle.rules.proofs.KeepsQueue.{sound-leave}
+use Rattle.rules.proofs.KeepsScan.{Says, verdict-says, Walking, walking, walking-leaves, walking-fits, walking-passed}
+use Rattle.rules.proofs.Decisions.{PollSays, poll-says, Releasable, Allowed, accepted}
+use Rattle.rules.proofs.KeepsSteps.{sound-added}
+use Rattle.rules.proofs.Stranded.{Served, served-step, plain, taker-unqueued}
+
+-- Watching changes nothing.
+
+abbrev pub grantsOf : List Moment → List Grant
+grantsOf ms = map (λ (m : Moment). m .grant) ms
+
+grants-append : (ms ns : List Moment) → grantsOf (ms ++ ns) ≡ grantsOf ms ++ grantsOf ns
+grants-append [] ns = refl
+grants-append (m ∷ ms) ns = ap (λ (gs : List Grant). m .grant ∷ gs) (grants-append ms ns)
+
+-- the same grants, and the same state at the end
+pub record Watches (w : Watched) (g : Granting) : Type 0 where
+  pub grants : grantsOf (w .moments) ≡ g .grants
+  pub state : w .state ≡ g .state
+
+watches-turn : (v : Verdict) (x : Slot) (on : State → List Moment → Watched) (go : State → List Grant → Granting) (s : State) (ms : List Moment)
+    → ((b : State) (ns : List Moment) → Watches (on b ns) (go b (grantsOf ns)))
+    → Watches (watchTurn v x on s ms) (turn v x go s (grantsOf ms))
+watches-turn Leaves x on go s ms k = k (leave x s) ms
+watches-turn Fits x on go s ms k =
+    let m : List Moment = record { grant = queueGrant x s; state = s } ∷ [] in
+    subst (λ (gs : List Grant). Watches (on (grantQueued x s) (ms ++ m)) (go (grantQueued x s) gs)) (grants-append ms m) (k (grantQueued x s) (ms ++ m))
+watches-turn Passed x on go s ms k = k s ms
+watches-turn Ends x on go s ms k = record { grants = refl; state = refl }
+
+pub watches-walk : (q : List Slot) (s : State) (ms : List Moment) → Watches (watchWalk q s ms) (walk q s (grantsOf ms))
+unfolding watchWalk walk
+watches-walk [] s ms = record { grants = refl; state = refl }
+watches-walk (x ∷ q) s ms =
+    watches-turn (verdict x s) x (λ b ns. watchWalk q b ns) (λ b gs. walk q b gs) s ms (λ b ns. watches-walk q b ns)
+
+watches-scan : (s : State) → grantsOf (watchScan s) ≡ scan s .grants
+unfolding watchScan scan
+watches-scan s = watches-walk (s .queue) s [] .grants
+
+-- both ways of a test alike
+both-ways : (b : Bool) (ms ns : List Moment) (g h : Granting)
+    → grantsOf ms ≡ g .grants → grantsOf ns ≡ h .grants → grantsOf (cond b ms ns) ≡ cond b g h .grants
+both-ways true ms ns g h e f = e
+both-ways false ms ns g h e f = f
+
+watches-release : (t : TaskId) (n : ℕ) (s : State) → grantsOf (watchRelease t n s) ≡ release t n s .grants
+unfolding watchRelease release
+watches-release t n s =
+    both-ways (eqb n 0) _ _ _ _ refl (both-ways (strict (addReleased t n s)) _ _ _ _ (watches-scan (addReleased t n s)) refl)
+
+watches-drop : (d : Dropping) (t : TaskId) (x : Slot) (s : State) → grantsOf (watchDrop d t x s) ≡ dropWork d t x s .grants
+unfolding watchDrop dropWork dropQueued
+watches-drop Leaving t x s = both-ways (strict s && (isFirst x (s .queue) || frontBypassable (leave x s .queue) (leave x s))) _ _ _ _ (watches-scan (leave x s)) refl
+watches-drop Unreserving t x s = refl
+watches-drop Returning t x s = watches-release t (askedAt x s) s
+watches-drop Nothing t x s = refl
+
+at-once-grants : (s : State) (gs : List Grant) → grantsOf (map (λ (g : Grant). record { grant = g; state = s }) gs) ≡ gs
+at-once-grants s [] = refl
+at-once-grants s (g ∷ gs) = ap (λ (hs : List Grant). g ∷ hs) (at-once-grants s gs)
+
+watches-act : (t : TaskId) (a : Act) (s : State) → grantsOf (watchAct t a s) ≡ effectOf t a s .grants
+unfolding watchAct effectOf dropRequest
+watches-act t (Acquire n) s = at-once-grants s _
+watches-act t (AcquireBypassable n) s = at-once-grants s _
+watches-act t (AcquireReserving least n) s = at-once-grants s _
+watches-act t (Upgrade held wanted) s = at-once-grants s _
+watches-act t (Poll x) s = at-once-grants s _
+watches-act t (Try n) s = at-once-grants s _
+watches-act t (TryUpgrade held wanted) s = at-once-grants s _
+watches-act t (Release n) s = watches-release t n s
+watches-act t (Drop x) s = watches-drop (dropping x s) t x s
+watches-act t Close s = at-once-grants s _
+watches-act t Sleep s = at-once-grants s _
+watches-act t Finish s = at-once-grants s _
+
+watches-step : (a : Step) (s : State) → grantsOf (unlessRefusedMoments (refusal a s) (watchAct (a .actor) (a .act) s)) ≡ step a s .grants
+unfolding step
+watches-step a s = go (refusal a s)
+  where
+    go : (o : Option ℕ) → grantsOf (unlessRefusedMoments o (watchAct (a .actor) (a .act) s)) ≡ unless o a s .grants
+    go none = watches-act (a .actor) (a .act) s
+    go (some n) = refl
+
+-- for each step of a run, the grants that it returned
+pub watches-run : (as′ : List Step) (s : State) → map grantsOf (watchRun as′ s) ≡ map (λ (o : Said). o .grants) (run as′ s .said)
+unfolding watchRun run
+watches-run [] s = refl
+watches-run (a ∷ as′) s = λ i. watches-step a s i ∷ watches-run as′ (step a s .state) i
+
+-- Who stands ahead.
+
+-- a slot that stands once has the same ones ahead, however the list is split
+same-ahead : (p p′ : List Slot) (x : Slot) (q q′ : List Slot) → p ++ x ∷ q ≡ p′ ++ x ∷ q′ → member x p ≡ false → member x p′ ≡ false → p ≡ p′
+unfolding anyOf
+same-ahead [] [] x q q′ e m n = refl
+same-ahead [] (y ∷ p′) x q q′ e m n = clash (or-left _ _ (slot-same x y (head-eq-of-cons-eq e))) n
+same-ahead (y ∷ p) [] x q q′ e m n = clash (or-left _ _ (slot-same x y (sym (head-eq-of-cons-eq e)))) m
+same-ahead (y ∷ p) (z ∷ p′) x q q′ e m n =
+    let k = same-ahead p p′ x q q′ (tail-eq-of-cons-eq e) (neither (sameSlot x y) _ m .1) (neither (sameSlot x z) _ n .1) in
+    λ i. head-eq-of-cons-eq e i ∷ k i
+
+-- at a turn of a scan: those ahead are those that have been passed
+turn-passes : (x : Slot) (q : List Slot) (s : State) → Walking (x ∷ q) s → PassesOnlySuch (record { grant = queueGrant x s; state = s })
+turn-passes x q s w x′ ahead behind e f y m =
+    let same : x ≡ x′ = cc in
+    let f′ : s .queue ≡ ahead ++ x ∷ behind = subst (λ (z : Slot). s .queue ≡ ahead ++ z ∷ behind) (sym same) f in
+    let all-passed = same-ahead ahead (w .passed) x behind q (sym f′ ∙ w .queue) (apart ahead behind f′) (apart (w .passed) q (w .queue)) in
+    let k = w .skipped y (subst (λ (l : List Slot). member y l ≡ true) all-passed m) in
+    record { bypassable = k .2; unfinished = k .0; large = k .1 }
+  where
+    apart : (p r : List Slot) → s .queue ≡ p ++ x ∷ r → member x p ≡ false
+    apart p r g = once-middle p x r (subst (λ (l : List Slot). twice l ≡ false) g (w .sound .once)) .0
+
+turn-watched : (v : Verdict) (x : Slot) (q : List Slot) (on : State → List Moment → Watched) (s : State) (ms : List Moment)
+    → Says v x s → Walking (x ∷ q) s → Each PassesOnlySuch ms
+    → ((b : State) (ns : List Moment) → Walking q b → Each PassesOnlySuch ns → Each PassesOnlySuch (on b ns .moments))
+    → Each PassesOnlySuch (watchTurn v x on s ms .moments)
+turn-watched Leaves x q on s ms k w h r = r (leave x s) ms (walking-leaves x q s w) h
+turn-watched Fits x q on s ms k w h r =
+    r (grantQueued x s) _ (walking-fits x q s w k) (each-append PassesOnlySuch ms _ h (turn-passes x q s w, tt))
+turn-watched Passed x q on s ms k w h r = r s ms (walking-passed x q s w k) h
+turn-watched Ends x q on s ms k w h r = h
+
+walk-watched : (q : List Slot) (s : State) (ms : List Moment) → Walking q s → Each PassesOnlySuch ms → Each PassesOnlySuch (watchWalk q s ms .moments)
+unfolding watchWalk
+walk-watched [] s ms w h = h
+walk-watched (x ∷ q) s ms w h =
+    turn-watched (verdict x s) x q (λ b ns. watchWalk q b ns) s ms (verdict-says x s) w h (λ b ns. walk-watched q b ns)
+
+scan-watched : (s : State) → Sound s → Each PassesOnlySuch (watchScan s)
+unfolding watchScan
+scan-watched s h = walk-watched (s .queue) s [] (walking s h) tt
+
+-- a grant whose request is not in the queue
+not-from-queue : (m : Moment) → ((x : Slot) → m .grant .taker ≡ BySlot x → member x (m .state .queue) ≡ false) → PassesOnlySuch m
+not-from-queue g k x ahead behind e f y m = clash (subst (λ (l : List Slot). member x l ≡ true) (sym f) (member-middle x ahead behind)) (k x e)
+
+module _ (s : State) (v : Served s) where
+  -- on a strictly fair semaphore a poll takes for a request that is not queued
+  poll-watched : (p : Polling) (t : TaskId) (x : Slot) → PollSays p x s → Each PassesOnlySuch (map (λ (g : Grant). record { grant = g; state = s }) (pollGrants p t x s))
+  poll-watched Holds t x k = tt
+  poll-watched IsClosed t x k = tt
+  poll-watched Stays t x k = tt
+  poll-watched QueuesBack t x k = tt
+  poll-watched QueuesFront t x k = tt
+  poll-watched TakesReserved t x k = clash (k .1) (plain v x)
+  poll-watched Takes t x k = (
+    not-from-queue (record { grant = record { taker = BySlot x; count = askedAt x s; task = t }; state = s }) (λ y e.
+        let same : x ≡ y = cc in
+        subst (λ (z : Slot). member z (s .queue) ≡ false) same (sym (v .sound .marked x) ∙ taker-unqueued v x k)),
+    tt,
+  )
+  poll-watched Reserves t x k = tt
+
+  try-watched : (d : Direct) (t : TaskId) (n : ℕ) → Each PassesOnlySuch (map (λ (g : Grant). record { grant = g; state = s }) (tryBy d t n s .grants))
+  unfolding tryBy
+  try-watched Shut t n = tt
+  try-watched NoPermits t n = tt
+  try-watched Take t n = (not-from-queue (record { grant = record { taker = ByTry; count = n; task = t }; state = s }) (λ y e. let z : _≡_ {A = ℕ} 0 1 = cc in absurd (omega arith)), tt)
+
+  release-watched : (t : TaskId) (n : ℕ) → Releasable t n s → Each PassesOnlySuch (watchRelease t n s)
+  unfolding watchRelease
+  release-watched t n k =
+      by-cond (Each PassesOnlySuch) (eqb n 0) (λ e. tt) (λ e.
+      by-cond (Each PassesOnlySuch) (strict (addReleased t n s)) (λ f. scan-watched (addReleased t n s) (sound-added t n s k e (v .sound))) (λ f. tt))
+
+  drop-watched : (d : Dropping) (t : TaskId) (x : Slot) → Releasable t (returned d (askedAt x s)) s → Each PassesOnlySuch (watchDrop d t x s)
+  unfolding watchDrop
+  drop-watched Leaving t x k =
+      by-cond (Each PassesOnlySuch) (strict s && (isFirst x (s .queue) || frontBypassable (leave x s .queue) (leave x s)))
+      (λ e. scan-watched (leave x s) (sound-leave x s (v .sound))) (λ e. tt)
+  drop-watched Unreserving t x k = tt
+  drop-watched Returning t x k = release-watched t (askedAt x s) k
+  drop-watched Nothing t x k = tt
+
+  act-watched : (t : TaskId) (a : Act) → Allowed t a s → Each PassesOnlySuch (watchAct t a s)
+  unfolding watchAct effectOf make poll
+  act-watched t (Acquire n) k = tt
+  act-watched t (AcquireBypassable n) k = tt
+  act-watched t (AcquireReserving least n) k = tt
+  act-watched t (Upgrade held wanted) k = tt
+  act-watched t (Poll x) k = poll-watched (polling x s) t x (poll-says x s)
+  act-watched t (Try n) k = try-watched (direct Back n s) t n
+  act-watched t (TryUpgrade held wanted) k = try-watched (direct Front (wanted - held) s) t (wanted - held)
+  act-watched t (Release n) k = release-watched t n k
+  act-watched t (Drop x) k = drop-watched (dropping x s) t x (k .1)
+  act-watched t Close k = tt
+  act-watched t Sleep k = tt
+  act-watched t Finish k = tt
+
+  step-watched : (a : Step) (o : Option ℕ) → refusal a s ≡ o → Each PassesOnlySuch (unlessRefusedMoments o (watchAct (a .actor) (a .act) s))
+  step-watched a none e = act-watched (a .actor) (a .act) (accepted a s e .allowed)
+  step-watched a (some n) e = tt
+
+pub run-watched : (as′ : List Step) (s : State) → Served s → Each (Each PassesOnlySuch) (watchRun as′ s)
+unfolding watchRun
+run-watched [] s v = tt
+run-watched (a ∷ as′) s v = (step-watched s v a (refusal a s) refl, run-watched as′ (step a s .state) (served-step a s v))
