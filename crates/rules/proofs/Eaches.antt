@@ -1,8 +1,15 @@
 -- Laws on a property that each element of a list has.
 use Prim.Native.Nat.{ℕ, zero, suc}
+use mathlib.Core.Path.{_≡_}
+use mathlib.Core.Bool.{true}
 use mathlib.Core.List.{List, [], _∷_, _++_}
 use lib.ListN.{getD, set, take, drop, replicate}
+use Rattle.rules.specs.declared.Slot.{Slot}
+use Rattle.rules.specs.State.{sameSlot}
+use Rattle.rules.specs.Broken.{anyOf, member}
 use Rattle.rules.specs.Promises.{Each}
+use Rattle.rules.proofs.Bools.{or-left, or-right}
+use Rattle.rules.proofs.Queues.{same-itself}
 
 module _ {A : Type 0} (P : A → Type 0) where
   pub each-append : (xs ys : List A) → Each P xs → Each P ys → Each P (xs ++ ys)
@@ -33,7 +40,9 @@ module _ {A : Type 0} (P : A → Type 0) where
   each-replicate zero x h = tt
   each-replicate (suc n) x h = (h, each-replicate n x h)
 
--- a weaker property
-pub each-weaker : {A : Type 0} (P Q : A → Type 0) → ((x : A) → P x → Q x) → (xs : List A) → Each P xs → Each Q xs
-each-weaker P Q f [] h = tt
-each-weaker P Q f (x ∷ xs) h = (f x (h .0), each-weaker P Q f xs (h .1))
+-- what holds of every member of a queue
+pub each-member : (P : Slot → Type 0) (q : List Slot) → ((x : Slot) → member x q ≡ true → P x) → Each P q
+unfolding anyOf
+each-member P [] h = tt
+each-member P (x ∷ q) h =
+    (h x (or-left (sameSlot x x) (member x q) (same-itself x)), each-member P q (λ y m. h y (or-right (sameSlot y x) (member y q) m)))

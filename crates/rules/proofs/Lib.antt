@@ -3,10 +3,12 @@ pub mod Bools
 pub mod Clocks
 pub mod Decimal
 pub mod Conservation
+pub mod Counts
 pub mod Decisions
 pub mod Departing
 pub mod Eaches
 pub mod Keeping
+pub mod KeepsCounts
 pub mod KeepsQueue
 pub mod KeepsScan
 pub mod KeepsSteps
@@ -15,6 +17,7 @@ pub mod Laws
 pub mod Naming
 pub mod Parts
 pub mod PassedOver
+pub mod Promises
 pub mod Queues
 pub mod Scripts
 pub mod Slots

@@ -32,7 +32,7 @@ use Rattle.rules.specs.Refusals.{returned, refusal}
 use Rattle.rules.specs.Runs.{Said, unless, step, run}
 use Rattle.rules.specs.Broken.{anyOf, member, twice}
 use Rattle.rules.specs.Sound.{Sound}
-use Rattle.rules.specs.Promises.{Each, Moment, Watched, watchTurn, watchWalk, watchScan, watchRelease, watchDrop, watchAct, unlessRefusedMoments, watchRun, PassesOnlySuch}
+use Rattle.rules.specs.Promises.{Each, Moment, grantsOf, Watched, watchTurn, watchWalk, watchScan, watchRelease, watchDrop, watchAct, unlessRefusedMoments, watchRun, PassesOnlySuch}
 use Rattle.rules.proofs.Bools.{by-cond, clash, neither, or-left}
 use Rattle.rules.proofs.Queues.{slot-same, member-middle, once-middle}
 use Rattle.rules.proofs.Eaches.{each-append}
@@ -43,9 +43,6 @@ use Rattle.rules.proofs.KeepsSteps.{sound-added}
 use Rattle.rules.proofs.Stranded.{Served, served-step, plain, taker-unqueued}
 
 -- Watching changes nothing.
-
-abbrev pub grantsOf : List Moment → List Grant
-grantsOf ms = map (λ (m : Moment). m .grant) ms
 
 grants-append : (ms ns : List Moment) → grantsOf (ms ++ ns) ≡ grantsOf ms ++ grantsOf ns
 grants-append [] ns = refl

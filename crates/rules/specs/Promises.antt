@@ -111,6 +111,9 @@ pub record Moment : Type 0 where
   pub grant : Grant
   pub state : State
 
+abbrev pub grantsOf : List Moment → List Grant
+grantsOf ms = map (λ (m : Moment). m .grant) ms
+
 pub record Watched : Type 0 where
   pub moments : List Moment
   pub state : State

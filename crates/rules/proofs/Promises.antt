@@ -1,0 +1,57 @@
+-- Demand 3, proved: six promises about every run from an accepted fresh state, made by `new` or by `const_new`, with any starting clocks.
+-- `steps` is any list of steps, accepted and refused mixed, of any actors and any numbers: so each promise holds after every call of every run.
+use Prim.Native.Nat.{_+_}
+use mathlib.Core.Path.{_≡_}
+use mathlib.Core.Bool.{false}
+use mathlib.Core.List.{List, map}
+use mathlib.Core.Option.{some}
+use Rattle.rules.specs.declared.Fairness.the-variants.{StrictlyFair}
+use Rattle.rules.specs.declared.Step.{Step}
+use Rattle.rules.specs.State.{Batch, stock}
+use Rattle.rules.specs.Fresh.{Start, fresh, refuses12}
+use Rattle.rules.specs.Runs.{Said, run}
+use Rattle.rules.specs.Broken.{broken}
+use Rattle.rules.specs.Sound.{AddUp}
+use Rattle.rules.specs.Promises.{Each, grantedIn, releasedIn, givenUpIn, NobodyStranded, grantsOf, watchRun, PassesOnlySuch, CountsFit, StartFits, StepFits}
+use Rattle.rules.proofs.Soundness.{sound-unbroken}
+use Rattle.rules.proofs.KeepsSteps.{sound-run, sound-fresh}
+use Rattle.rules.proofs.Conservation.{run-balance}
+use Rattle.rules.proofs.Stranded.{served-run, served-fresh}
+use Rattle.rules.proofs.PassedOver.{watches-run, run-watched}
+use Rattle.rules.proofs.KeepsCounts.{fitting-run, fitting-fresh, counts-fit}
+
+module _ (start : Start) (accepted : refuses12 start ≡ false) (steps : List Step) where
+  -- 1. Conservation: the stock and the permits granted are the starting stock and the permits released, or given up by a holder dropped before it
+  -- completed.
+  pub conservation :
+      stock (run steps (fresh start) .state) + grantedIn (run steps (fresh start) .said)
+      ≡ start .stock + (releasedIn steps (fresh start) + givenUpIn steps (fresh start))
+  unfolding fresh
+  conservation = run-balance steps (fresh start) (sound-fresh start accepted)
+
+  -- 2. Batches: once set up they add up to the stock; never more than 64; none of 0.
+  pub batches : (bs : List Batch) → run steps (fresh start) .state .permits .batches ≡ some bs → AddUp bs (stock (run steps (fresh start) .state))
+  batches = sound-run steps (fresh start) (sound-fresh start accepted) .permits
+
+  -- 3. Nobody is stranded: on a strictly fair semaphore each queued request up to and including the first that is not Bypassable asks for more than
+  -- the stock.
+  pub nobody-stranded : start .fairness ≡ StrictlyFair → NobodyStranded (run steps (fresh start) .state)
+  nobody-stranded f = served-run steps (fresh start) (served-fresh start accepted f) .nobody
+
+  -- 4. Who is passed over: on a strictly fair semaphore a grant from the queue leaves queued ahead of it, at the moment when it is made, only
+  -- Bypassable requests of unfinished tasks, each asking for more than is then in stock.
+  pub passed-over : start .fairness ≡ StrictlyFair → Each (Each PassesOnlySuch) (watchRun steps (fresh start))
+  passed-over f = run-watched steps (fresh start) (served-fresh start accepted f)
+
+  -- (The grants that are watched are those that the steps returned.)
+  pub watched : map grantsOf (watchRun steps (fresh start)) ≡ map (λ (o : Said). o .grants) (run steps (fresh start) .said)
+  watched = watches-run steps (fresh start)
+
+  -- 5. Never broken: no state reached is one that 14 refuses.
+  pub never-broken : broken (run steps (fresh start) .state) ≡ false
+  never-broken = sound-unbroken (run steps (fresh start) .state) (sound-run steps (fresh start) (sound-fresh start accepted))
+
+  -- 6. Counts fit: where the starting numbers and those of the steps are at most 4,294,967,295, no count or clock entry passes it, and no slot, task
+  -- or batch number its size.
+  pub counts-stay : StartFits start → Each StepFits steps → CountsFit (run steps (fresh start) .state)
+  counts-stay f g = counts-fit (start .tasks) (run steps (fresh start) .state) (fitting-run (start .tasks) steps (fresh start) g (fitting-fresh start accepted f))
