@@ -1,6 +1,10 @@
 -- Going by cases on a test.
+use Prim.Native.Nat.{ℕ, _<_}
+use native.Mathlib.Omega.{arith}
 use mathlib.Core.Path.{_≡_, refl, sym, ap, _∙_}
 use mathlib.Core.Bool.{Bool, true, false, cond, not, _&&_, _||_, Bool·beq, true≢false, false≢true}
+use borrow.Author.Tests.{eqb-false, ne-eqb}
+use lib.Dec.{eqb}
 
 -- what holds of both ways out of a test holds of the test
 pub by-cond {ℓ} : {A : Type ℓ} (X : A → Type 0) (b : Bool) {x y : A} → (b ≡ true → X x) → (b ≡ false → X y) → X (cond b x y)
@@ -64,3 +68,10 @@ same-beq true true e = refl
 same-beq true false e = absurd (true≢false e)
 same-beq false true e = absurd (false≢true e)
 same-beq false false e = refl
+
+-- a number is 0, or positive
+pub positive : (n : ℕ) → eqb n 0 ≡ false → 0 < n
+positive n e = let d : n ≡ 0 → ⊥ = eqb-false n 0 e in omega arith
+
+pub not-zero : (n : ℕ) → 0 < n → eqb n 0 ≡ false
+not-zero n h = ne-eqb n 0 (λ e. omega arith)

@@ -2,11 +2,9 @@
 use Prim.Native.Nat.{ℕ, _+_, _-_, _≤_}
 use native.Mathlib.Omega.{arith}
 use mathlib.Core.Path.{_≡_, refl, sym, ap, _∙_}
-use mathlib.Core.Bool.{Bool, cond, not, _&&_, _||_}
+use mathlib.Core.Bool.{Bool, cond, not, _&&_}
 use mathlib.Core.List.{List, [], _∷_, _++_}
 use mathlib.Core.Option.{Option, none, some}
-use borrow.Author.Tests.{eqb-true}
-use lib.Dec.{eqb}
 use Rattle.rules.specs.declared.TaskId.{TaskId}
 use Rattle.rules.specs.declared.Slot.{Slot}
 use Rattle.rules.specs.declared.Grant.{Grant}
@@ -20,21 +18,20 @@ use Rattle.rules.specs.declared.Dropping.the-variants.{Leaving, Unreserv
 use Rattle.rules.specs.declared.Act.{Act}
 use Rattle.rules.specs.declared.Act.the-variants.{Acquire, AcquireBypassable, AcquireReserving, Upgrade, Poll, Try, TryUpgrade, Release, Drop, Close, Sleep, Finish}
 use Rattle.rules.specs.declared.Step.{Step}
-use Rattle.rules.specs.State.{Permits, State, strict, stock, requestAt, askedAt, withReservation, alterRequest}
+use Rattle.rules.specs.State.{Permits, State, stock, requestAt, askedAt, withReservation, alterRequest}
 use Rattle.rules.specs.Taking.{takeAs, adding, direct}
-use Rattle.rules.specs.Scan.{Granting, leave, queueGrant, walk, scan}
+use Rattle.rules.specs.Scan.{leave, queueGrant, walk, scan}
 use Rattle.rules.specs.Polling.{polling, pollWork, pollGrants, pollMark, polled}
-use Rattle.rules.specs.Steps.{make, tryBy, poll, addReleased, release, dropping, isFirst, frontBypassable, dropQueued, dropWork, dropRequest, effectOf}
+use Rattle.rules.specs.Steps.{make, tryBy, poll, addReleased, release, dropping, dropWork, dropRequest, effectOf}
 use Rattle.rules.specs.Refusals.{refusal, returned}
 use Rattle.rules.specs.Runs.{step, unless, run}
 use Rattle.rules.specs.Promises.{counts, grantedIn, releases, givesUp, unlessRefused, overRun, releasedIn, givenUpIn}
 use Rattle.rules.specs.Sound.{Sound}
-use Rattle.rules.proofs.Bools.{by-cond}
 use Rattle.rules.proofs.Tasks.{reblocks}
 use Rattle.rules.proofs.KeepsQueue.{has-reservation}
 use Rattle.rules.proofs.KeepsTaking.{take-stock}
 use Rattle.rules.proofs.KeepsScan.{by-walk, granted-stock}
-use Rattle.rules.proofs.Decisions.{PollSays, poll-says, DropSays, drop-says}
+use Rattle.rules.proofs.Decisions.{PollSays, poll-says, by-release, by-drop-queued, DropSays, drop-says}
 use Rattle.rules.proofs.Unchanged.{Untouched, untouched-roused, untouched-wake, untouched-closing}
 use Rattle.rules.proofs.KeepsSteps.{take-fits, sound-step}
 
@@ -84,14 +81,11 @@ balanced-taking : (g : Grant) {m n : ℕ} → g .count ≤ m → n ≡ m - g .co
 balanced-taking g l e = omega (arith, counts-one g)
 
 release-balance : (t : TaskId) (n : ℕ) (s : State) → Balance s n (release t n s .grants) (release t n s .state)
-unfolding release adding counts
+unfolding adding counts
 release-balance t n s =
-    by-cond (λ (g : Granting). Balance s n (g .grants) (g .state)) (eqb n 0)
-    (λ e. let z = eqb-true n 0 e in omega arith)
-    (λ e.
-    by-cond (λ (g : Granting). Balance s n (g .grants) (g .state)) (strict (addReleased t n s))
-    (λ f. omega (arith, scan-grants (addReleased t n s)))
-    (λ f. omega (arith, stock-of (untouched-wake (addReleased t n s)))))
+    by-release (λ g. Balance s n (g .grants) (g .state)) t n s (λ e. omega arith)
+    (λ l f. omega (arith, scan-grants (addReleased t n s)))
+    (λ l f. omega (arith, stock-of (untouched-wake (addReleased t n s))))
 
 poll-balance : (p : Polling) (t : TaskId) (x : Slot) (s : State) → PollSays p x s
     → Balance s 0 (pollGrants p t x s) (alterRequest x (pollMark (polled p) t) (pollWork p t x s))
@@ -116,10 +110,9 @@ try-balance Take t n s k = balanced-taking _ (k refl) (stock-of (untouched-rouse
 
 -- what a drop brings: the permits of a holder that had not completed
 drop-balance : (d : Dropping) (t : TaskId) (x : Slot) (s : State) → Balance s (returned d (askedAt x s)) (dropWork d t x s .grants) (dropWork d t x s .state)
-unfolding dropWork dropQueued
+unfolding dropWork
 drop-balance Leaving t x s =
-    by-cond (λ (g : Granting). Balance s 0 (g .grants) (g .state)) (strict s && (isFirst x (s .queue) || frontBypassable (leave x s .queue) (leave x s)))
-    (λ e. omega (arith, scan-grants (leave x s)))
+    by-drop-queued (λ g. Balance s 0 (g .grants) (g .state)) x s (omega (arith, scan-grants (leave x s)))
     (λ e. balanced refl)
 drop-balance Unreserving t x s = balanced (stock-of (untouched-wake (withReservation none s)))
 drop-balance Returning t x s = release-balance t (askedAt x s) s

@@ -4,7 +4,7 @@ use native.Mathlib.Omega.{arith}
 use mathlib.Core.Path.{_≡_, refl, subst}
 use mathlib.Core.Bool.{Bool, true, false, cond, not, _&&_, _||_}
 use mathlib.Core.Option.{Option, none, some}
-use borrow.Author.Tests.{ltb-false, leb-true, leb-false, eqb-true, eqb-false, not-true, not-false, lt-ltb}
+use borrow.Author.Tests.{ltb-false, leb-true, leb-false, eqb-true, not-true, not-false, lt-ltb}
 use lib.Dec.{leb, ltb, eqb}
 use lib.ListN.{length, getD}
 use Rattle.rules.specs.declared.TaskId.{TaskId}
@@ -27,9 +27,11 @@ use Rattle.rules.specs.State.{State, strict, stock, reserved, hasReserva
 use Rattle.rules.specs.Fresh.{Start, notBelow, refuses12}
 use Rattle.rules.specs.Taking.{allBypassable, direct}
 use Rattle.rules.specs.Polling.{queues, pollReserving, byDirect, pollPlain, polling, takesIn}
-use Rattle.rules.specs.Steps.{dropping, lowestFree}
+use Rattle.rules.specs.Scan.{Granting, leave, scan}
+use Rattle.rules.specs.Waking.{wakeUnfair}
+use Rattle.rules.specs.Steps.{ungranted, addReleased, release, dropping, isFirst, frontBypassable, dropQueued, lowestFree}
 use Rattle.rules.specs.Refusals.{pollsNothing, badUpgrade, full, lastTick, givesBack, first, releaseGrounds, grounds, refusal}
-use Rattle.rules.proofs.Bools.{by-cond, clash, neither, both, and-other}
+use Rattle.rules.proofs.Bools.{by-cond, clash, neither, both, and-other, positive}
 
 -- The direct rule.
 
@@ -178,6 +180,26 @@ drop-says x s =
     (λ e. let b = both (requestAt x s .holding) (not (requestAt x s .completed)) e in (q, v, b .0, not-true (requestAt x s .completed) (b .1)))
     (λ e. (q, v, e))))
 
+-- a queued request dropped: where no scan follows, it was not first, and the new front is not Bypassable
+pub by-drop-queued : (X : Granting → Type 0) (x : Slot) (s : State)
+    → X (scan (leave x s))
+    → ((strict s ≡ true → (isFirst x (s .queue) ≡ false) × (frontBypassable (leave x s .queue) (leave x s) ≡ false)) → X (ungranted (leave x s)))
+    → X (dropQueued x s)
+unfolding dropQueued
+by-drop-queued X x s f g =
+    by-cond X (strict s && (isFirst x (s .queue) || frontBypassable (leave x s .queue) (leave x s))) (λ e. f)
+    (λ e. g (λ k. neither (isFirst x (s .queue)) _ (and-other (strict s) _ e k)))
+
+-- A release: of nothing; on a strictly fair semaphore; on an unfair one.
+pub by-release : (X : Granting → Type 0) (t : TaskId) (n : ℕ) (s : State)
+    → (n ≡ 0 → X (ungranted s))
+    → (0 < n → strict s ≡ true → X (scan (addReleased t n s)))
+    → (0 < n → strict s ≡ false → X (ungranted (wakeUnfair (addReleased t n s))))
+    → X (release t n s)
+unfolding release
+by-release X t n s z f g =
+    by-cond X (eqb n 0) (λ e. z (eqb-true n 0 e)) (λ e. by-cond X (strict s) (λ k. f (positive n e) k) (λ k. g (positive n e) k))
+
 -- A step that is not refused.
 
 -- the first ground not given, and those after it
@@ -217,8 +239,7 @@ pub record Upgradable (held wanted : ℕ) : Type 0 where
 upgradable : (held wanted : ℕ) → badUpgrade held wanted ≡ false → Upgradable held wanted
 upgradable held wanted e =
     let k = neither (eqb held 0) (leb wanted held) e in
-    let d : held ≡ 0 → ⊥ = eqb-false held 0 (k .0) in
-    record { had = omega arith; more = leb-false wanted held (k .1) }
+    record { had = positive held (k .0); more = leb-false wanted held (k .1) }
 
 abbrev pub HasSlot : State → Type 0
 HasSlot s = lowestFree (s .slots) < slotCount
@@ -255,8 +276,7 @@ allowed-act t (AcquireReserving least n) s e =
     let g6 = ungiven _ _ _ e in
     let g7 = ungiven _ _ _ (g6 .1) in
     let k = neither (eqb n 0) (ltb n least) (g7 .0) in
-    let d : n ≡ 0 → ⊥ = eqb-false n 0 (k .0) in
-    (g6 .0, omega arith, ltb-false n least (k .1), has-slot s (ungiven _ _ _ (g7 .1) .0))
+    (g6 .0, positive n (k .0), ltb-false n least (k .1), has-slot s (ungiven _ _ _ (g7 .1) .0))
 allowed-act t (Upgrade held wanted) s e =
     let g7 = ungiven _ _ _ e in
     (upgradable held wanted (g7 .0), has-slot s (ungiven _ _ _ (g7 .1) .0))
@@ -273,8 +293,7 @@ allowed-act t (Poll x) s e =
     }
 allowed-act t (Try n) s e =
     let g5 = ungiven _ _ _ e in
-    let d : n ≡ 0 → ⊥ = eqb-false n 0 (g5 .0) in
-    (omega arith, may-tick t s (ungiven _ _ _ (g5 .1) .0))
+    (positive n (g5 .0), may-tick t s (ungiven _ _ _ (g5 .1) .0))
 allowed-act t (TryUpgrade held wanted) s e =
     let g7 = ungiven _ _ _ e in
     (upgradable held wanted (g7 .0), may-tick t s (ungiven _ _ _ (g7 .1) .0))
@@ -317,9 +336,8 @@ startable a e =
     let c4 = neither _ _ e in
     let c3 = neither _ _ (c4 .0) in
     let c2 = neither (eqb (a .tasks) 0) (ltb maxTasks (a .tasks)) (c3 .0) in
-    let d : a .tasks ≡ 0 → ⊥ = eqb-false (a .tasks) 0 (c2 .0) in
     record {
-      some-tasks = omega arith;
+      some-tasks = positive (a .tasks) (c2 .0);
       few-tasks = ltb-false maxTasks (a .tasks) (c2 .1);
       clocks = eqb-true (length (a .clocks)) (a .tasks * a .tasks) (not-false _ (c3 .1));
       maker = λ t f. leb-false (a .tasks) (t .0) (subst (λ (o : Option TaskId). notBelow (a .tasks) o ≡ false) f (c4 .1));

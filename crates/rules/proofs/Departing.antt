@@ -3,20 +3,19 @@ use Prim.Native.Nat.{ℕ}
 use mathlib.Core.Path.{_≡_, refl, sym, ap, subst, _∙_}
 use mathlib.Core.Bool.{false}
 use mathlib.Core.List.{List, []}
-use mathlib.Core.Option.{Option, none, some}
-use lib.Dec.{eqb}
+use mathlib.Core.Option.{Option}
 use Rattle.rules.specs.declared.TaskId.{TaskId}
 use Rattle.rules.specs.declared.Slot.{Slot}
 use Rattle.rules.specs.declared.Grant.{Grant}
-use Rattle.rules.specs.State.{State, strict, isThe, hasReservation, ownerFinished}
+use Rattle.rules.specs.State.{State, isThe, hasReservation}
 use Rattle.rules.specs.Taking.{takeAs}
-use Rattle.rules.specs.Scan.{Granting, without, leave, walk, scan}
-use Rattle.rules.specs.Waking.{clearedIf, clearFinished, wakeUnfair}
+use Rattle.rules.specs.Scan.{without, leave, walk, scan}
+use Rattle.rules.specs.Waking.{clearFinished, wakeUnfair}
 use Rattle.rules.specs.Steps.{addReleased, release}
 use Rattle.rules.specs.Broken.{member}
-use Rattle.rules.proofs.Bools.{by-cond}
 use Rattle.rules.proofs.Queues.{by-slot, without-absent, member-without}
-use Rattle.rules.proofs.Tasks.{Roused, roused-keeps, rouse-unfair}
+use Rattle.rules.proofs.Tasks.{Roused, roused-keeps, by-cleared, rouse-unfair}
+use Rattle.rules.proofs.Decisions.{by-release}
 use Rattle.rules.proofs.KeepsScan.{by-walk, granted-queue, granted-reservation}
 
 -- nobody waits in b who did not wait in s
@@ -72,25 +71,16 @@ pub no-more-roused : {s b : State} → Roused s b → NoMore s b
 no-more-roused {s} r = roused-keeps (NoMore s) r (record { queue = λ y m. m; reservation = λ y v. v })
 
 pub no-more-cleared : (s : State) → NoMore s (clearFinished s)
-no-more-cleared s = go (s .reservation)
-  where
-    go : (o : Option Slot) → NoMore s (clearedIf o s)
-    go none = no-more-itself s
-    go (some x) =
-        by-cond (NoMore s) (ownerFinished x s) (λ e. record { queue = λ y m. m; reservation = λ y v. refl }) (λ e. no-more-itself s)
+no-more-cleared s = by-cleared (NoMore s) s (no-more-itself s) (record { queue = λ y m. m; reservation = λ y v. refl })
 
 pub no-more-wake : (s : State) → NoMore s (wakeUnfair s)
 no-more-wake s = no-more-then (no-more-cleared s) (no-more-roused (rouse-unfair s))
 
 pub no-more-release : (t : TaskId) (n : ℕ) (s : State) → NoMore s (release t n s .state)
-unfolding release
 no-more-release t n s =
-    by-cond (λ (g : Granting). NoMore s (g .state)) (eqb n 0) (λ e. no-more-itself s) (λ e.
-    no-more-then added
-    (by-cond (λ (g : Granting). NoMore a (g .state)) (strict a) (λ f. no-more-scan a) (λ f. no-more-wake a)))
+    by-release (λ g. NoMore s (g .state)) t n s (λ e. no-more-itself s)
+    (λ l f. no-more-then added (no-more-scan (addReleased t n s)))
+    (λ l f. no-more-then added (no-more-wake (addReleased t n s)))
   where
-    a : State
-    a = addReleased t n s
-
-    added : NoMore s a
+    added : NoMore s (addReleased t n s)
     added = record { queue = λ y m. m; reservation = λ y v. v }

@@ -13,14 +13,13 @@ use Rattle.rules.specs.declared.Fairness.{Fairness}
 use Rattle.rules.specs.Sizes.{maxTasks, slotCount}
 use Rattle.rules.specs.Task.{Task}
 use Rattle.rules.specs.Request.{Request, noRequest}
-use Rattle.rules.specs.State.{Permits, State, isStrict, isSome, sameSlot, requestAt, ownerFinished, withPermits, withReservation, withTasks, alterTask}
-use Rattle.rules.specs.Waking.{clearedIf, clearFinished, wakeUnfair}
+use Rattle.rules.specs.State.{Permits, State, isStrict, isSome, sameSlot, requestAt, withPermits, withReservation, withTasks, alterTask}
+use Rattle.rules.specs.Waking.{clearFinished, wakeUnfair}
 use Rattle.rules.specs.Broken.{member, twice}
 use Rattle.rules.specs.Sound.{Waits, Reserves, WellMade, SoundPermits, Sound}
-use Rattle.rules.proofs.Bools.{by-cond}
 use Rattle.rules.proofs.Queues.{by-slot, pigeonhole}
 use Rattle.rules.proofs.Slots.{slotAt}
-use Rattle.rules.proofs.Tasks.{Roused, roused-number, roused-keeps, rouse-unfair}
+use Rattle.rules.proofs.Tasks.{Roused, roused-number, roused-keeps, by-cleared, rouse-unfair}
 
 -- Sound, slot by slot.
 
@@ -130,11 +129,7 @@ sound-unreserved s h =
     (λ x. sound-alike (record { fairness = refl; tasks = refl; slot = refl; members = refl; reserved = λ e. cc }) (sound-at s h x))
 
 pub sound-cleared : (s : State) → Sound s → Sound (clearFinished s)
-sound-cleared s h = go (s .reservation)
-  where
-    go : (o : Option Slot) → Sound (clearedIf o s)
-    go none = h
-    go (some x) = by-cond Sound (ownerFinished x s) (λ e. sound-unreserved s h) (λ e. h)
+sound-cleared s h = by-cleared Sound s h (sound-unreserved s h)
 
 pub sound-wake : (s : State) → Sound s → Sound (wakeUnfair s)
 sound-wake s h = sound-roused (rouse-unfair s) (sound-cleared s h)

@@ -2,11 +2,9 @@
 use Prim.Native.Nat.{ℕ, zero, suc, _-_, _*_, _≤_, _<_}
 use native.Mathlib.Omega.{arith}
 use mathlib.Core.Path.{_≡_, refl, sym, subst, _∙_}
-use mathlib.Core.Bool.{Bool, true, false, _&&_, _||_}
+use mathlib.Core.Bool.{Bool, true, false}
 use mathlib.Core.List.{List, [], _∷_, _++_}
 use mathlib.Core.Option.{Option, none, some}
-use borrow.Author.Tests.{eqb-false}
-use lib.Dec.{eqb}
 use lib.ListN.{length, take, drop, replicate, length-append, length-drop, length-replicate}
 use lib.Seq.{length-take-le}
 use Rattle.rules.specs.declared.TaskId.{TaskId}
@@ -27,23 +25,22 @@ use Rattle.rules.specs.Sizes.{slotCount, batchCount, width, largest}
 use Rattle.rules.specs.Clock.{empty}
 use Rattle.rules.specs.Task.{Task, noTask, ticked, joined, slept, finished}
 use Rattle.rules.specs.Request.{Request, queuedAs, held, polledPending, polledGranted, polledClosed, plainAsk, reservingAsk}
-use Rattle.rules.specs.State.{Batch, Permits, State, strict, stock, taskAt, requestAt, askedAt, taskOf, ownerFinished, withReservation, alterTask, alterRequest}
+use Rattle.rules.specs.State.{Batch, Permits, State, strict, stock, taskAt, requestAt, askedAt, taskOf, withReservation, alterTask, alterRequest}
 use Rattle.rules.specs.Fresh.{Start, freshTasks, freshBatches, fresh, refuses12}
 use Rattle.rules.specs.Taking.{taking, takeAs, takeQueued, direct}
-use Rattle.rules.specs.Scan.{Granting, leave, queueBack, queueFront, grantQueued, walk, scan}
-use Rattle.rules.specs.Waking.{clearedIf, wakeUnfair, reblock}
+use Rattle.rules.specs.Scan.{leave, queueBack, queueFront, grantQueued, walk, scan}
+use Rattle.rules.specs.Waking.{wakeUnfair, reblock}
 use Rattle.rules.specs.Polling.{polling, pollWork, pollMark, polled, takesIn}
-use Rattle.rules.specs.Steps.{make, upgradeAsk, tryBy, poll, addReleased, release, dropping, isFirst, frontBypassable, dropQueued, dropWork, free, dropRequest, emptyQueue, dropReservation, closing, effectOf}
+use Rattle.rules.specs.Steps.{make, upgradeAsk, tryBy, poll, addReleased, release, dropping, dropWork, free, dropRequest, emptyQueue, dropReservation, closing, effectOf}
 use Rattle.rules.specs.Refusals.{returned}
 use Rattle.rules.specs.Runs.{step, run}
 use Rattle.rules.specs.Broken.{standingBatches}
 use Rattle.rules.specs.Sound.{SoundPermits, Sound}
 use Rattle.rules.specs.Promises.{Each, ClockFits, BatchFits, RequestFits, SlotFits, CountsFit, StartFits, ActFits, StepFits}
-use Rattle.rules.proofs.Bools.{by-cond}
 use Rattle.rules.proofs.Eaches.{each-member, each-append, each-set, each-at, each-take, each-drop, each-replicate}
-use Rattle.rules.proofs.Tasks.{rouse-awake, rouse-unfair, rouse-unfinished, reblocks}
+use Rattle.rules.proofs.Tasks.{rouse-awake, by-cleared, rouse-unfair, rouse-unfinished, reblocks}
 use Rattle.rules.proofs.KeepsScan.{by-walk}
-use Rattle.rules.proofs.Decisions.{Releasable, MayTick, Allowed, accepted, startable}
+use Rattle.rules.proofs.Decisions.{by-release, by-drop-queued, Releasable, MayTick, Allowed, accepted, startable}
 use Rattle.rules.proofs.KeepsSteps.{by-closing, by-refusal, fresh-number, sound-step, sound-fresh}
 use Rattle.rules.proofs.Counts.{first-fits, join-fits, tick-fits, empty-fits, taking-fits, adding-fits, Counted, counted-roused, task-fits, counted-task, counted-slots, slots-altered, counted-permits, request-fits}
 
@@ -121,11 +118,7 @@ module _ (n : ℕ) where
   counted-scan s h = counted-walk (s .queue) s [] h
 
   counted-wake : (s : State) → Counted n s → Counted n (wakeUnfair s)
-  counted-wake s h = counted-roused n (rouse-unfair s) (go (s .reservation))
-    where
-      go : (o : Option Slot) → Counted n (clearedIf o s)
-      go none = h
-      go (some x) = by-cond (Counted n) (ownerFinished x s) (λ e. counted-reservation none s h) (λ e. h)
+  counted-wake s h = counted-roused n (rouse-unfair s) (by-cleared (Counted n) s h (counted-reservation none s h))
 
   -- Steps.
 
@@ -170,25 +163,21 @@ module _ (n : ℕ) where
         counted-task n t (λ a. joined (s .permits .last) (ticked t a)) s (join-fits _ _ (tick-fits (t .0) _ l (task-fits n t s h)) (h .permits .last)) h
     counted-try Take t m l = counted-roused n (reblocks t (takeAs t m s)) (counted-take t m s l h)
 
+    counted-added : (t : TaskId) (m : ℕ) → Releasable t m s → 0 < m → Counted n (addReleased t m s)
+    counted-added t m k l =
+        let a = counted-task n t (ticked t) s (tick-fits (t .0) _ (k .tick l) (task-fits n t s h)) h in
+        counted-permits n _ (alterTask t (ticked t) s)
+        (adding-fits m _ (s .permits) (k .fits l) (task-fits n t (alterTask t (ticked t) s) a) (h .permits)) a
+
     counted-release : (t : TaskId) (m : ℕ) → Releasable t m s → Counted n (release t m s .state)
-    unfolding release
     counted-release t m k =
-        by-cond (λ (g : Granting). Counted n (g .state)) (eqb m 0) (λ e. h) (λ e.
-        by-cond (λ (g : Granting). Counted n (g .state)) (strict (addReleased t m s)) (λ f. counted-scan _ (added e)) (λ f. counted-wake _ (added e)))
-      where
-        added : eqb m 0 ≡ false → Counted n (addReleased t m s)
-        added e =
-            let d : m ≡ 0 → ⊥ = eqb-false m 0 e in
-            let l : 0 < m = omega arith in
-            let a = counted-task n t (ticked t) s (tick-fits (t .0) _ (k .tick l) (task-fits n t s h)) h in
-            counted-permits n _ (alterTask t (ticked t) s)
-            (adding-fits m _ (s .permits) (k .fits l) (task-fits n t (alterTask t (ticked t) s) a) (h .permits)) a
+        by-release (λ g. Counted n (g .state)) t m s (λ e. h)
+        (λ l f. counted-scan _ (counted-added t m k l)) (λ l f. counted-wake _ (counted-added t m k l))
 
     counted-drop : (d : Dropping) (t : TaskId) (x : Slot) → Releasable t (returned d (askedAt x s)) s → Counted n (dropWork d t x s .state)
-    unfolding dropWork dropQueued
+    unfolding dropWork
     counted-drop Leaving t x k =
-        by-cond (λ (g : Granting). Counted n (g .state)) (strict s && (isFirst x (s .queue) || frontBypassable (leave x s .queue) (leave x s)))
-        (λ e. counted-scan (leave x s) (counted-leave x s h)) (λ e. counted-leave x s h)
+        by-drop-queued (λ g. Counted n (g .state)) x s (counted-scan (leave x s) (counted-leave x s h)) (λ e. counted-leave x s h)
     counted-drop Unreserving t x k = counted-wake (withReservation none s) (counted-reservation none s h)
     counted-drop Returning t x k = counted-release t (askedAt x s) k
     counted-drop Nothing t x k = h

@@ -5,9 +5,8 @@ use mathlib.Core.Path.{_≡_, refl, sym, ap, subst, _∙_}
 use mathlib.Core.Bool.{Bool, true, false, cond, not, _&&_, _||_, false≢true}
 use mathlib.Core.List.{List, [], _∷_}
 use mathlib.Core.Option.{Option, none, some}
-use borrow.Author.Tests.{eqb-false}
 use lib.Dec.{eqb}
-use lib.ListN.{length, getD, drop, replicate}
+use lib.ListN.{length, getD, drop, replicate, length-set}
 use Rattle.rules.specs.declared.TaskId.{TaskId}
 use Rattle.rules.specs.declared.Slot.{Slot}
 use Rattle.rules.specs.declared.Ask.{Ask}
@@ -23,21 +22,21 @@ use Rattle.rules.specs.declared.Act.{Act}
 use Rattle.rules.specs.declared.Act.the-variants.{Acquire, AcquireBypassable, AcquireReserving, Upgrade, Poll, Try, TryUpgrade, Release, Drop, Close, Sleep, Finish}
 use Rattle.rules.specs.declared.Step.{Step}
 use Rattle.rules.specs.Sizes.{maxTasks, slotCount}
-use Rattle.rules.specs.Task.{Task, noTask, ticked, joined, slept, finished}
+use Rattle.rules.specs.Task.{Task, noTask, ticked, slept, finished}
 use Rattle.rules.specs.Request.{Request, queuedAs, polledPending, polledGranted, polledClosed, plainAsk, reservingAsk}
 use Rattle.rules.specs.State.{Batch, State, strict, stock, isSome, isThe, hasReservation, inUse, requestAt, askedAt, taskOf, ownerFinished, unblockAndWake, withQueue, withReservation, alterRequest, close}
 use Rattle.rules.specs.Taking.{takeAs, direct}
-use Rattle.rules.specs.Scan.{Granting, without, leave}
+use Rattle.rules.specs.Scan.{without, leave}
 use Rattle.rules.specs.Waking.{wakeUnfair, reblock}
 use Rattle.rules.specs.Polling.{polling, pollWork, pollMark, polled}
-use Rattle.rules.specs.Steps.{Outcome, lowestFree, make, upgradeAsk, tryBy, poll, addReleased, release, dropping, isFirst, frontBypassable, dropQueued, dropWork, free, dropRequest, emptyQueue, dropReservation, closing, wakeUnfinished, quiet, effectOf, effect}
+use Rattle.rules.specs.Steps.{Outcome, lowestFree, make, upgradeAsk, tryBy, poll, addReleased, release, dropping, dropWork, free, dropRequest, emptyQueue, dropReservation, closing, wakeUnfinished, quiet, effectOf, effect}
 use Rattle.rules.specs.Steps.Answer.{refused}
 use Rattle.rules.specs.Refusals.{returned, givesBack, refusal}
 use Rattle.rules.specs.Fresh.{Start, firstBatch, freshTasks, freshBatches, fresh, refusedFresh, refuses12}
 use Rattle.rules.specs.Runs.{unless, step, run}
 use Rattle.rules.specs.Broken.{member}
 use Rattle.rules.specs.Sound.{AddUp, SoundPermits, Sound}
-use Rattle.rules.proofs.Bools.{by-cond, by-test, clash, and-other}
+use Rattle.rules.proofs.Bools.{positive, by-cond, by-test, clash, and-other}
 use Rattle.rules.proofs.Queues.{same-itself, absent-empty, once-empty, gone-without}
 use Rattle.rules.proofs.Slots.{free-request, used-below, alter-twice}
 use Rattle.rules.proofs.Batches.{first-adds-up, sound-adding}
@@ -47,7 +46,7 @@ use Rattle.rules.proofs.KeepsQueue.{Joins, joins-back, joins-front, sou
 use Rattle.rules.proofs.KeepsTaking.{sound-take}
 use Rattle.rules.proofs.KeepsScan.{sound-scan}
 use Rattle.rules.proofs.Departing.{NoMore, no-more-then, no-more-take, no-more-scan, no-more-wake, no-more-roused, no-more-release}
-use Rattle.rules.proofs.Decisions.{DirectSays, direct-says, Queueing, PollSays, poll-says, DropSays, drop-says, Releasable, Pollable, HasSlot, Allowed, accepted, startable}
+use Rattle.rules.proofs.Decisions.{DirectSays, direct-says, Queueing, PollSays, poll-says, by-release, by-drop-queued, DropSays, drop-says, Releasable, Pollable, HasSlot, Allowed, accepted, startable}
 
 -- Make.
 
@@ -94,7 +93,7 @@ module _ (t : TaskId) (x : Slot) (s : State) (l : t .0 < length (s .tasks)) (k :
       let p = and-other (not (requestAt x s .ask .reserving) && eqb (askedAt x s) 0) _ (k .asks) in
       by-test (eqb (askedAt x s) 0)
       (λ z. clash (ap (λ (b : Bool). not (b || s .closed)) g ∙ ap (λ (b : Bool). not b) o) (p (ap (λ (b : Bool). not b && eqb (askedAt x s) 0) r ∙ z)))
-      (λ z. let d : askedAt x s ≡ 0 → ⊥ = eqb-false (askedAt x s) 0 z in omega arith))
+      (λ z. positive (askedAt x s) z))
 
   -- a plain request has no reservation
   unreserved : (requestAt x s .ask .reserving ≡ true → hasReservation x s ≡ false) → hasReservation x s ≡ false
@@ -160,24 +159,19 @@ module _ (t : TaskId) (x : Slot) (s : State) (l : t .0 < length (s .tasks)) (k :
 
 pub sound-try : (d : Direct) (t : TaskId) (n : ℕ) (s : State) → (d ≡ Take → n ≤ stock s) → Sound s → Sound (tryBy d t n s .state)
 unfolding tryBy
-sound-try Shut t n s f h = sound-alter-task t (λ a. joined (s .permits .last) (ticked t a)) s h
-sound-try NoPermits t n s f h = sound-alter-task t (λ a. joined (s .permits .last) (ticked t a)) s h
+sound-try Shut t n s f h = sound-tasks _ s (length-set (s .tasks) (t .0) _) h
+sound-try NoPermits t n s f h = sound-tasks _ s (length-set (s .tasks) (t .0) _) h
 sound-try Take t n s f h = sound-roused (reblocks t (takeAs t n s)) (sound-take t n s (f refl) h)
 
 -- Release.
 
-pub sound-added : (t : TaskId) (n : ℕ) (s : State) → Releasable t n s → eqb n 0 ≡ false → Sound s → Sound (addReleased t n s)
-sound-added t n s k e h =
-    let d : n ≡ 0 → ⊥ = eqb-false n 0 e in
-    let l : 0 < n = omega arith in
+pub sound-added : (t : TaskId) (n : ℕ) (s : State) → Releasable t n s → 0 < n → Sound s → Sound (addReleased t n s)
+sound-added t n s k l h =
     sound-permits _ _ (sound-adding n _ (s .permits) l (k .room l) (h .permits)) (sound-alter-task t (ticked t) s h)
 
 pub sound-release : (t : TaskId) (n : ℕ) (s : State) → Releasable t n s → Sound s → Sound (release t n s .state)
-unfolding release
 sound-release t n s k h =
-    by-cond (λ (g : Granting). Sound (g .state)) (eqb n 0) (λ e. h) (λ e.
-    let a = sound-added t n s k e h in
-    by-cond (λ (g : Granting). Sound (g .state)) (strict (addReleased t n s)) (λ f. sound-scan _ a) (λ f. sound-wake _ a))
+    by-release (λ g. Sound (g .state)) t n s (λ e. h) (λ l f. sound-scan _ (sound-added t n s k l h)) (λ l f. sound-wake _ (sound-added t n s k l h))
 
 -- Drop.
 
@@ -192,10 +186,10 @@ leavable-then {x} k h n = record { sound = h; unqueued = n .queue x (k .unqueued
 
 pub sound-drop-work : (d : Dropping) (t : TaskId) (x : Slot) (s : State)
     → DropSays d x s → Releasable t (returned d (askedAt x s)) s → Sound s → Leavable x (dropWork d t x s .state)
-unfolding dropWork dropQueued
+unfolding dropWork
 sound-drop-work Leaving t x s q k h =
-    by-cond (λ (g : Granting). Leavable x (g .state)) (strict s && (isFirst x (s .queue) || frontBypassable (leave x s .queue) (leave x s)))
-    (λ e. leavable-then gone (sound-scan (leave x s) (gone .sound)) (no-more-scan (leave x s)))
+    by-drop-queued (λ g. Leavable x (g .state)) x s
+    (leavable-then gone (sound-scan (leave x s) (gone .sound)) (no-more-scan (leave x s)))
     (λ e. gone)
   where
     gone : Leavable x (leave x s)

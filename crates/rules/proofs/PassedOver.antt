@@ -33,7 +33,7 @@ use Rattle.rules.specs.Runs.{Said, unless, step, run}
 use Rattle.rules.specs.Broken.{anyOf, member, twice}
 use Rattle.rules.specs.Sound.{Sound}
 use Rattle.rules.specs.Promises.{Each, Moment, grantsOf, Watched, watchTurn, watchWalk, watchScan, watchRelease, watchDrop, watchAct, unlessRefusedMoments, watchRun, PassesOnlySuch}
-use Rattle.rules.proofs.Bools.{by-cond, clash, neither, or-left}
+use Rattle.rules.proofs.Bools.{positive, by-cond, clash, neither, or-left}
 use Rattle.rules.proofs.Queues.{slot-same, member-middle, once-middle}
 use Rattle.rules.proofs.Eaches.{each-append}
 use Rattle.rules.proofs.KeepsQueue.{sound-leave}
@@ -199,7 +199,8 @@ module _ (s : State) (v : Served s) where
   unfolding watchRelease
   release-watched t n k =
       by-cond (Each PassesOnlySuch) (eqb n 0) (λ e. tt) (λ e.
-      by-cond (Each PassesOnlySuch) (strict (addReleased t n s)) (λ f. scan-watched (addReleased t n s) (sound-added t n s k e (v .sound))) (λ f. tt))
+      by-cond (Each PassesOnlySuch) (strict (addReleased t n s))
+      (λ f. scan-watched (addReleased t n s) (sound-added t n s k (positive n e) (v .sound))) (λ f. tt))
 
   drop-watched : (d : Dropping) (t : TaskId) (x : Slot) → Releasable t (returned d (askedAt x s)) s → Each PassesOnlySuch (watchDrop d t x s)
   unfolding watchDrop

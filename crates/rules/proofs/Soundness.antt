@@ -1,12 +1,12 @@
 -- A state is sound exactly when 14 does not refuse it.
-use Prim.Native.Nat.{ℕ, _<_}
+use Prim.Native.Nat.{_<_}
 use native.Mathlib.Omega.{arith}
 use native.Mathlib.Decide.{decLt}
 use mathlib.Core.Path.{_≡_, refl, sym, ap, subst, _∙_}
 use mathlib.Core.Bool.{Bool, true, false, not, _&&_, _||_, true≢false}
 use mathlib.Core.List.{List, [], _∷_}
 use mathlib.Core.Option.{Option, none, some}
-use borrow.Author.Tests.{ltb-false, leb-false, eqb-false, eqb-true, le-ltb, lt-leb, ne-eqb, eq-eqb, not-false}
+use borrow.Author.Tests.{ltb-false, leb-false, eqb-true, le-ltb, lt-leb, eq-eqb, not-false}
 use lib.Dec.{ltb, eqb}
 use lib.ListN.{length}
 use Rattle.rules.specs.declared.Slot.{Slot}
@@ -16,7 +16,7 @@ use Rattle.rules.specs.State.{Batch, State, strict, stock, isSome, reser
 use Rattle.rules.specs.Refusals.{badReserving}
 use Rattle.rules.specs.Broken.{anyOf, member, twice, everySlot, reservedSlots, standingBatches, total, isBeyond, isFree, isMisMarked, cannotReserve, isMisMade, asksNothing, cannotWait, isEmptyBatch, differs, nonEmpty, broken}
 use Rattle.rules.specs.Sound.{Waits, Reserves, WellMade, SoundPermits, Sound}
-use Rattle.rules.proofs.Bools.{by-test, clash, neither, _nor_, not-both, and-other, is-not-not, beq-same, same-beq}
+use Rattle.rules.proofs.Bools.{by-test, clash, neither, _nor_, not-both, and-other, is-not-not, beq-same, same-beq, positive, not-zero}
 use Rattle.rules.proofs.Slots.{free-request, past-unused, used-below}
 use Rattle.rules.proofs.Queues.{none-of, no-member, member-fails, slot-fails, no-slot}
 
@@ -81,12 +81,6 @@ unfolding broken
 unbroken s c =
     c .tasks nor c .queue nor c .batches nor c .beyond nor c .reserved-beyond nor c .free nor c .once nor c .marks nor c .reserves
     nor c .made nor c .asks nor c .waits nor c .reserved-waits nor c .closed nor c .sizes nor c .sum
-
-positive : (n : ℕ) → eqb n 0 ≡ false → 0 < n
-positive n e = let d : n ≡ 0 → ⊥ = eqb-false n 0 e in omega arith
-
-not-zero : (n : ℕ) → 0 < n → eqb n 0 ≡ false
-not-zero n h = ne-eqb n 0 (λ e. omega arith)
 
 module _ (s : State) (n : length (s .slots) ≡ slotCount) (c : Clauses s) where
   waits : (x : Slot) → isBeyond x ≡ false → inUse x s ≡ true → 0 < askedAt x s → cannotWait s x ≡ false → Waits s x

@@ -7,7 +7,6 @@ use mathlib.Core.Bool.{Bool, true, false, cond, not, _&&_, _||_}
 use mathlib.Core.List.{List, [], _∷_, _++_}
 use mathlib.Core.Option.{Option, none, some, Option·getD}
 use borrow.Author.Tests.{leb-false}
-use lib.Dec.{eqb}
 use Rattle.rules.specs.declared.TaskId.{TaskId}
 use Rattle.rules.specs.declared.Slot.{Slot}
 use Rattle.rules.specs.declared.Ask.{Ask}
@@ -28,22 +27,22 @@ use Rattle.rules.specs.Request.{Request, noRequest, queuedAs, polledGran
 use Rattle.rules.specs.State.{State, isStrict, strict, stock, isSome, isThe, sameSlot, requestAt, askedAt, withQueue, alterRequest, close}
 use Rattle.rules.specs.Fresh.{Start, fresh, refuses12}
 use Rattle.rules.specs.Taking.{takeAs, taking, direct, allBypassable}
-use Rattle.rules.specs.Scan.{Granting, without, leave, walk, scan}
+use Rattle.rules.specs.Scan.{without, leave, walk, scan}
 use Rattle.rules.specs.Waking.{reblock}
 use Rattle.rules.specs.Polling.{polling, pollWork, pollMark, polled}
-use Rattle.rules.specs.Steps.{make, upgradeAsk, tryBy, poll, addReleased, release, dropping, isFirst, frontBypassable, dropQueued, dropWork, dropRequest, emptyQueue, dropReservation, closing, effectOf}
+use Rattle.rules.specs.Steps.{make, upgradeAsk, tryBy, poll, addReleased, release, dropping, isFirst, frontBypassable, dropWork, dropRequest, emptyQueue, dropReservation, closing, effectOf}
 use Rattle.rules.specs.Refusals.{returned}
 use Rattle.rules.specs.Runs.{step, run}
 use Rattle.rules.specs.Broken.{anyOf, member}
 use Rattle.rules.specs.Sound.{Sound}
 use Rattle.rules.specs.Promises.{AskTooMuch}
-use Rattle.rules.proofs.Bools.{by-cond, by-test, clash, neither, and-other, or-left, or-right}
+use Rattle.rules.proofs.Bools.{by-test, clash, and-other, or-left, or-right}
 use Rattle.rules.proofs.Queues.{same-slot, same-itself, without-absent}
 use Rattle.rules.proofs.Slots.{slot-beside, asks-altered}
 use Rattle.rules.proofs.Tasks.{Roused, roused-keeps, reblocks}
 use Rattle.rules.proofs.KeepsQueue.{filled, sound-leave}
 use Rattle.rules.proofs.Departing.{no-more-take}
-use Rattle.rules.proofs.Decisions.{mayPass, DirectSays, Taking, PollSays, poll-says, DropSays, drop-says, Releasable, Allowed, accepted}
+use Rattle.rules.proofs.Decisions.{mayPass, DirectSays, Taking, PollSays, poll-says, by-release, by-drop-queued, DropSays, drop-says, Releasable, Allowed, accepted}
 use Rattle.rules.proofs.KeepsSteps.{newSlot, new-unqueued, sound-added, sound-drop-work, empties, empties-reservation, by-closing, by-refusal, by-run, sound-step, sound-fresh}
 use Rattle.rules.proofs.Unchanged.{fairness-step}
 use Rattle.rules.proofs.KeepsScan.{Walking, walking, walking-leaves, walking-fits, walking-passed, by-walk}
@@ -244,21 +243,18 @@ module _ (s : State) (v : Served s) where
   try-serves Take t n = quieter-serves (quieter-then (quieter-taken t n s) (quieter-roused (reblocks t (takeAs t n s)))) (v .nobody)
 
   release-serves : (t : TaskId) (n : ℕ) → Releasable t n s → AskTooMuch (release t n s .state .queue) (release t n s .state)
-  unfolding release
   release-serves t n k =
-      by-cond (λ (g : Granting). AskTooMuch (g .state .queue) (g .state)) (eqb n 0) (λ e. v .nobody) (λ e.
-      by-cond (λ (g : Granting). AskTooMuch (g .state .queue) (g .state)) (strict (addReleased t n s))
-      (λ f. scan-strands-nobody (addReleased t n s) (sound-added t n s k e (v .sound)))
-      (λ f. clash (v .strictly) f))
+      by-release (λ g. AskTooMuch (g .state .queue) (g .state)) t n s (λ e. v .nobody)
+      (λ l f. scan-strands-nobody (addReleased t n s) (sound-added t n s k l (v .sound)))
+      (λ l f. clash (v .strictly) f)
 
   drop-serves : (d : Dropping) (t : TaskId) (x : Slot) → DropSays d x s → Releasable t (returned d (askedAt x s)) s
       → AskTooMuch (dropWork d t x s .state .queue) (dropWork d t x s .state)
-  unfolding dropWork dropQueued
+  unfolding dropWork
   drop-serves Leaving t x q k =
-      by-cond (λ (g : Granting). AskTooMuch (g .state .queue) (g .state)) (strict s && (isFirst x (s .queue) || frontBypassable (leave x s .queue) (leave x s)))
-      (λ e. scan-strands-nobody (leave x s) (sound-leave x s (v .sound)))
+      by-drop-queued (λ g. AskTooMuch (g .state .queue) (g .state)) x s (scan-strands-nobody (leave x s) (sound-leave x s (v .sound)))
       (λ e.
-      let f = neither (isFirst x (s .queue)) _ (and-other (strict s) _ e (v .strictly)) in
+      let f = e (v .strictly) in
       front-left x (s .queue) s (leave x s) (asks-altered x (queuedAs false) s (λ r. refl)) (omega arith) (f .0) (f .1) (v .nobody))
   drop-serves Unreserving t x q k = clash (q .1) (ap (λ (o : Option Slot). isThe x o) (no-reservation v))
   drop-serves Returning t x q k = release-serves t (askedAt x s) k

@@ -14,8 +14,8 @@ use Rattle.rules.specs.declared.TaskId.{TaskId}
 use Rattle.rules.specs.declared.Slot.{Slot}
 use Rattle.rules.specs.Clock.{Clock}
 use Rattle.rules.specs.Task.{Task, noTask, blocked, unblocked, wakened}
-use Rattle.rules.specs.State.{State, strict, stock, askedAt, leastAt, taskAt, taskOf, ownerFinished, withTasks, alterTask, unblockAndWake}
-use Rattle.rules.specs.Waking.{clearFinished, wakeEach, wakeBy, wakeUnfair, cannotProgress, reblockEach, reblock}
+use Rattle.rules.specs.State.{State, strict, stock, askedAt, leastAt, taskAt, taskOf, ownerFinished, withTasks, withReservation, alterTask, unblockAndWake}
+use Rattle.rules.specs.Waking.{clearedIf, clearFinished, wakeEach, wakeBy, wakeUnfair, cannotProgress, reblockEach, reblock}
 use Rattle.rules.specs.Steps.{wakeUnfinished}
 use Rattle.rules.proofs.Bools.{by-cond, by-test}
 
@@ -84,6 +84,14 @@ rouse-each (x ∷ q) s =
 rouse-by : (o : Option Slot) (s : State) → Roused s (wakeBy o s)
 rouse-by none s = rouse-each (s .queue) s
 rouse-by (some x) s = by-cond (Roused s) (leb (askedAt x s) (stock s)) (λ e. rouse-awake (taskOf x s) s) (λ e. roused-none s)
+
+-- a reservation cleared, or not
+pub by-cleared : (X : State → Type 0) (s : State) → X s → X (withReservation none s) → X (clearFinished s)
+by-cleared X s h k = go (s .reservation)
+  where
+    go : (o : Option Slot) → X (clearedIf o s)
+    go none = h
+    go (some x) = by-cond X (ownerFinished x s) (λ e. k) (λ e. h)
 
 -- waking the unfair, after clearing the reservation of a finished task
 pub rouse-unfair : (s : State) → Roused (clearFinished s) (wakeUnfair s)

@@ -1,10 +1,8 @@
 -- What is left alone: the permits by waking, reblocking and closing; and the fairness by every step.
 use Prim.Native.Nat.{ℕ}
 use mathlib.Core.Path.{_≡_, refl, _∙_}
-use mathlib.Core.Bool.{_&&_, _||_}
 use mathlib.Core.List.{List, [], _∷_}
 use mathlib.Core.Option.{Option, none, some}
-use lib.Dec.{eqb}
 use Rattle.rules.specs.declared.TaskId.{TaskId}
 use Rattle.rules.specs.declared.Slot.{Slot}
 use Rattle.rules.specs.declared.Grant.{Grant}
@@ -18,15 +16,15 @@ use Rattle.rules.specs.declared.Act.{Act}
 use Rattle.rules.specs.declared.Act.the-variants.{Acquire, AcquireBypassable, AcquireReserving, Upgrade, Poll, Try, TryUpgrade, Release, Drop, Close, Sleep, Finish}
 use Rattle.rules.specs.declared.Step.{Step}
 use Rattle.rules.specs.declared.Priority.the-variants.{Back}
-use Rattle.rules.specs.State.{State, strict, askedAt, ownerFinished, withReservation}
+use Rattle.rules.specs.State.{State, askedAt, withReservation}
 use Rattle.rules.specs.Taking.{takeAs, direct}
-use Rattle.rules.specs.Scan.{Granting, leave, walk, scan}
-use Rattle.rules.specs.Waking.{clearedIf, wakeUnfair}
+use Rattle.rules.specs.Scan.{leave, walk, scan}
+use Rattle.rules.specs.Waking.{wakeUnfair}
 use Rattle.rules.specs.Polling.{polling, pollWork}
-use Rattle.rules.specs.Steps.{make, tryBy, poll, addReleased, release, dropping, isFirst, frontBypassable, dropQueued, dropWork, dropRequest, emptyQueue, dropReservation, closing, effectOf}
+use Rattle.rules.specs.Steps.{make, tryBy, poll, addReleased, release, dropping, dropWork, dropRequest, emptyQueue, dropReservation, closing, effectOf}
 use Rattle.rules.specs.Runs.{step, run}
-use Rattle.rules.proofs.Bools.{by-cond}
-use Rattle.rules.proofs.Tasks.{Roused, roused-keeps, rouse-unfair, rouse-unfinished, reblocks}
+use Rattle.rules.proofs.Tasks.{Roused, roused-keeps, by-cleared, rouse-unfair, rouse-unfinished, reblocks}
+use Rattle.rules.proofs.Decisions.{by-release, by-drop-queued}
 use Rattle.rules.proofs.KeepsScan.{by-walk, granted-fairness}
 use Rattle.rules.proofs.KeepsSteps.{by-closing, by-refusal, by-run}
 
@@ -44,11 +42,8 @@ pub untouched-roused : {s b : State} → Roused s b → Untouched s b
 untouched-roused {s} r = roused-keeps (Untouched s) r (record { fairness = refl; permits = refl })
 
 pub untouched-wake : (s : State) → Untouched s (wakeUnfair s)
-untouched-wake s = untouched-then (go (s .reservation)) (untouched-roused (rouse-unfair s))
-  where
-    go : (o : Option Slot) → Untouched s (clearedIf o s)
-    go none = untouched s
-    go (some x) = by-cond (Untouched s) (ownerFinished x s) (λ e. record { fairness = refl; permits = refl }) (λ e. untouched s)
+untouched-wake s =
+    untouched-then (by-cleared (Untouched s) s (untouched s) (record { fairness = refl; permits = refl })) (untouched-roused (rouse-unfair s))
 
 untouched-empty : (q : List Slot) (s : State) → Untouched s (emptyQueue q s)
 unfolding emptyQueue
@@ -110,17 +105,13 @@ fairness-try NoPermits t n s = refl
 fairness-try Take t n s = untouched-roused (reblocks t (takeAs t n s)) .fairness ∙ fairness-take t n s
 
 pub fairness-release : (t : TaskId) (n : ℕ) (s : State) → release t n s .state .fairness ≡ s .fairness
-unfolding release
 fairness-release t n s =
-    by-cond (λ (g : Granting). g .state .fairness ≡ s .fairness) (eqb n 0) (λ e. refl) (λ e.
-    by-cond (λ (g : Granting). g .state .fairness ≡ s .fairness) (strict (addReleased t n s))
-    (λ f. fairness-scan (addReleased t n s)) (λ f. untouched-wake (addReleased t n s) .fairness))
+    by-release (λ g. g .state .fairness ≡ s .fairness) t n s (λ e. refl)
+    (λ l f. fairness-scan (addReleased t n s)) (λ l f. untouched-wake (addReleased t n s) .fairness)
 
 pub fairness-drop : (d : Dropping) (t : TaskId) (x : Slot) (s : State) → dropWork d t x s .state .fairness ≡ s .fairness
-unfolding dropWork dropQueued
-fairness-drop Leaving t x s =
-    by-cond (λ (g : Granting). g .state .fairness ≡ s .fairness) (strict s && (isFirst x (s .queue) || frontBypassable (leave x s .queue) (leave x s)))
-    (λ e. fairness-scan (leave x s)) (λ e. refl)
+unfolding dropWork
+fairness-drop Leaving t x s = by-drop-queued (λ g. g .state .fairness ≡ s .fairness) x s (fairness-scan (leave x s)) (λ e. refl)
 fairness-drop Unreserving t x s = untouched-wake (withReservation none s) .fairness
 fairness-drop Returning t x s = fairness-release t (askedAt x s) s
 fairness-drop Nothing t x s = refl
