@@ -35,7 +35,7 @@ pub struct PermitsAvailable {
 }
 
 // The batches that are left, and the join of the clocks of those touched.
-pub struct Consumed {
+struct Consumed {
     pub permit_clocks: PermitClocks,
     pub clock: VectorClock,
 }
