@@ -3,10 +3,10 @@ use Prim.Native.Nat.{ℕ, zero, suc, _+_, _≤_, _<_}
 use native.Mathlib.Nat.{not-suc-le-zero, le-of-suc-le-suc}
 use native.Mathlib.Omega.{arith}
 use native.Mathlib.Numerals.{add-one}
-use mathlib.Core.Path.{_≡_, refl, sym, ap}
+use mathlib.Core.Path.{_≡_, refl, sym, ap, _∙_}
 use mathlib.Core.List.{List, [], _∷_, _++_, map, map-append}
 use lib.ListN.{length, getD, set, take, length-take, length-map, List·getD-eq-default}
-use lib.Seq.{set-out, take-set-lt, take-suc-set}
+use lib.Seq.{length-take-le, take-all, set-out, take-set-lt, take-suc-set}
 
 module _ {A B : Type 0} (f : A → B) where
   -- what owning an array of structs tells of its length
@@ -28,12 +28,21 @@ module _ {A B : Type 0} (f : A → B) (n : ℕ) (l : List A) where
   short : (i : ℕ) → n ≤ i → length (map f (take n l)) ≤ i
   short i h = simp (length-map, length-take) (omega arith)
 
+  pub size-within : (w : ℕ) → length l ≡ w → n ≤ w → n ≡ length (map f (take n l))
+  size-within w e h = sym (length-map (take n l) f ∙ length-take-le n l (omega arith))
+
+  pub size-past : (w : ℕ) → length l ≡ w → w < n → w ≡ length (map f (take n l))
+  size-past w e h = sym (length-map (take n l) f ∙ (rw (take-all n l (omega arith)) e))
+
   -- whatever stands past the end
-  pub read-at : (i w : ℕ) (a : A) (b : B) → i < n → n ≤ w → length l ≡ w → f (getD l i a) ≡ getD (map f (take n l)) i b
+  pub read-at : (i w : ℕ) (a : A) (b : B) → i < n → i < w → length l ≡ w → f (getD l i a) ≡ getD (map f (take n l)) i b
   read-at i w a b h k e = read f n l i a b h (omega arith)
 
   pub read-past : (i : ℕ) (b c : B) → c ≡ b → n ≤ i → c ≡ getD (map f (take n l)) i b
   read-past i b c e h = rw (e, List·getD-eq-default (map f (take n l)) b (short i h))
+
+  pub read-beyond : (i w : ℕ) (b c : B) → c ≡ b → length l ≡ w → w ≤ i → c ≡ getD (map f (take n l)) i b
+  read-beyond i w b c e k h = rw (e, List·getD-eq-default (map f (take n l)) b {n = i} (simp (length-map, length-take) (omega arith)))
 
   pub store-past : (i : ℕ) (b : B) → n ≤ i → map f (take n l) ≡ set (map f (take n l)) i b
   store-past i b h = sym (set-out (map f (take n l)) i b (short i h))

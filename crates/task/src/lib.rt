@@ -2,7 +2,7 @@
 ghost use mathlib.Core.Path.{_≡_};
 ghost use mathlib.Core.List.{[], _∷_, _++_};
 ghost use Prim.Native.Nat.{_+_, _≤_, _<_};
-ghost use lib.ListN.{getD, set};
+ghost use lib.ListN.{length, getD, set};
 ghost use Rattle.rules.specs.Sizes.{maxTasks, width, largest};
 ghost use Rattle.rules.specs.Task.{noTask, isRunnable, isFinished, roused, blocked, unblocked, wakened, slept, finished, ticked, joined};
 ghost use Rattle.task.specs.View.{taskOf, tasksOf, Shows};
@@ -196,17 +196,28 @@ impl Tasks {
         }
     }
 
-    // The task numbered `t`: past the last, what stands where no task does.
+    // How many tasks stand in the array.
+    pub fn length(self) -> usize
+        ensures { λ r. ⌜ r ≡ length (tasksOf self) ⌝ }
+    {
+        if Tasks::MOST < self.count {
+            return Tasks::MOST;
+        }
+        self.count
+    }
+
+    // The task numbered `t`: past the last, what stands where no task does. Any count will do.
     pub fn get(self, t: TaskId) -> Task
-        requires { ⌜ self .count ≤ maxTasks ⌝ }
         ensures { λ r. ⌜ taskOf r ≡ getD (tasksOf self) (t .0) noTask ⌝ }
     {
         let i = t.0 as usize;
-        if i < self.count {
-            self.all[i]
-        } else {
-            Task::none()
+        if self.count <= i {
+            return Task::none();
         }
+        if Tasks::MOST <= i {
+            return Task::none();
+        }
+        self.all[i]
     }
 
     // The task numbered `t` becomes `a`: past the last, nothing changes.

@@ -58,6 +58,9 @@ impl Reservation {
 }
 
 impl Waiters {
+    // The most that can wait in the queue.
+    pub const PLACES: usize = 32;
+
     pub fn new() -> Waiters
         ensures { λ r. ⌜ Holds r [] ⌝ }
     {
@@ -65,6 +68,16 @@ impl Waiters {
             slots: [Slot(0); 32],
             len: 0,
         }
+    }
+
+    // How many slots stand in the array.
+    pub fn length(self) -> usize
+        ensures { λ r. ⌜ r ≡ length (waitersOf self) ⌝ }
+    {
+        if Waiters::PLACES < self.len {
+            return Waiters::PLACES;
+        }
+        self.len
     }
 
     // The slot at place i.

@@ -1,0 +1,4 @@
+pub mod Judging
+pub mod Looking
+pub mod Grouping
+pub mod Deciding

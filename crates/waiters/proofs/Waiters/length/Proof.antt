@@ -1,0 +1,21 @@
+use mathlib.Core.Path.{_≡_, sym}
+use borrow.Author.Needs.{needs}
+use lib.ListN.{length}
+use Rattle.waiters.proofs.Lists.{unmap, waiters-length, waiters-past}
+use Rattle.waiters.proofs.Waiters.length.Statement.{statement}
+use Rattle.waiters.proofs.Waiters.length.Tie as tie
+
+returns : tie.Need-returns
+returns c =
+    let w = c .before .before .args .self in
+    let n : length (w .slots) ≡ 32 = search (needs, unmap) in
+    sym (waiters-past w n (c .if1 .taken))
+
+returns-2 : tie.Need-returns-2
+returns-2 c =
+    let w = c .before .before .args .self in
+    let n : length (w .slots) ≡ 32 = search (needs, unmap) in
+    sym (waiters-length w n (c .if1 .left))
+
+pub length-spec : {M : Type 1} → statement M
+length-spec = tie.close (tie.spec returns returns-2)
