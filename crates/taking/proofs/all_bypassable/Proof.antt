@@ -1,0 +1,88 @@
+use mathlib.Core.Bool.{not}
+use mathlib.Core.Option.{none}
+use Prim.Native.Nat.{_-_, _≤_}
+use mathlib.Core.Path.{_≡_, refl, sym, ap, subst, _∙_}
+use native.Mathlib.Omega.{arith}
+use borrow.Author.Needs.{needs}
+use lib.ListN.{length, getD, drop}
+use Rattle.rules.specs.declared.Slot.{Slot}
+use Rattle.request.specs.View.{slotsOf, Stands}
+use Rattle.waiters.specs.View.{waitersOf, slot0}
+use Rattle.waiters.proofs.Lists.{unmap, waiters-length}
+use Rattle.taking.specs.Parts.{everyBypassable}
+use Rattle.taking.proofs.Looking.{one-blocks, one-passes, all-pass}
+use Rattle.taking.proofs.all_bypassable.Statement.{statement}
+use Rattle.taking.proofs.all_bypassable.Tie as tie
+
+abbrev Inv-loop : tie.InvT-loop
+Inv-loop waiters requests len i₀ i =
+    (i ≤ len) × (length (waitersOf waiters) ≡ len)
+    × (everyBypassable (drop i (waitersOf waiters)) (slotsOf requests) ≡ everyBypassable (waitersOf waiters) (slotsOf requests))
+
+abbrev μ-loop : tie.MeasureT-loop
+μ-loop waiters requests len i₀ i = len - i
+
+-- the request of the slot at i
+stood : (c : tie.After-get Inv-loop μ-loop) →
+    let d = c .before .before .before in
+    let a = d .before .args in
+    Stands (c .get .result) (getD (slotsOf (a .requests)) (getD (waitersOf (a .waiters)) (d .loop .i) slot0 .0) none)
+stood c =
+    let a = c .before .before .before .before .args in
+    subst (λ (x : Slot). Stands (c .get .result) (getD (slotsOf (a .requests)) (x .0) none)) (c .before .at .ensures) (c .get .ensures)
+
+loop-holds : tie.Need-loop-holds Inv-loop μ-loop
+loop-holds c =
+    let w = c .args .waiters in
+    let n : length (w .slots) ≡ 32 = search (needs, unmap) in
+    (search needs, waiters-length w n (c .pre), refl)
+
+at-requires : tie.Need-at-requires Inv-loop μ-loop
+at-requires c κs = search needs
+
+get-requires : tie.Need-get-requires Inv-loop μ-loop
+get-requires c κs = search needs
+
+is-bypassable-requires : tie.Need-is-bypassable-requires Inv-loop μ-loop
+is-bypassable-requires c κs = search needs
+
+returns : tie.Need-returns Inv-loop μ-loop
+returns c =
+    let d = c .before .before .before .before .before .before in
+    let a = d .before .args in
+    sym (one-blocks (slotsOf (a .requests)) (waitersOf (a .waiters)) (d .loop .i) slot0 (omega arith) _ (stood (c .before .before .before)) (sym (ap not (c .before .is-bypassable .ensures)) ∙ c .if1 .taken)) ∙ d .loop .inv .2
+
+add-i : tie.Need-add-i Inv-loop μ-loop
+add-i c = search needs
+
+loop-less : tie.Need-loop-less Inv-loop μ-loop
+loop-less c = search needs
+
+loop-again : tie.Need-loop-again Inv-loop μ-loop
+loop-again c =
+    let d = c .before .before .before .before .before .before in
+    let a = d .before .args in
+    let v = d .loop .inv in
+    (omega arith, v .1, one-passes (slotsOf (a .requests)) (waitersOf (a .waiters)) (d .loop .i) slot0 (omega arith) _ (stood (c .before .before .before)) (sym (ap not (c .before .is-bypassable .ensures)) ∙ c .if1 .left) ∙ v .2)
+
+returns-2 : tie.Need-returns-2 Inv-loop μ-loop
+returns-2 c =
+    let d = c .before in
+    let a = d .before .args in
+    sym (all-pass (slotsOf (a .requests)) (waitersOf (a .waiters)) (d .loop .i) (omega arith)) ∙ d .loop .inv .2
+
+pub all-bypassable-spec : {M : Type 1} → statement M
+all-bypassable-spec =
+    tie.close
+    (tie.spec
+    Inv-loop
+    μ-loop
+    loop-holds
+    at-requires
+    get-requires
+    is-bypassable-requires
+    returns
+    add-i
+    loop-less
+    loop-again
+    returns-2)
