@@ -7,7 +7,7 @@ use mathlib.Core.Bool.{Bool, true, false, cond, _||_}
 use mathlib.Core.List.{List, [], _∷_, _++_, map}
 use borrow.Author.Tests.{eq-eqb, ne-eqb, eqb-true, eqb-false, le-leb, lt-leb}
 use lib.Dec.{eqb}
-use lib.ListN.{length, getD, set, take, drop, replicate, drop-of-length-le, take-append-drop, length-map, length-set, length-replicate, getD-replicate}
+use lib.ListN.{length, getD, set, take, drop, replicate, drop-of-length-le, take-append-drop, length-take, length-map, length-set, length-replicate, getD-replicate}
 use lib.Seq.{slice-cons, length-take-le, take-all, take-take, take-suc, getD-set-same, getD-set-other}
 use Rattle.rules.specs.declared.Slot.{Slot}
 use Rattle.rules.specs.State.{sameSlot}
@@ -54,6 +54,11 @@ waiters-length w e h = length-take-le (w .len) (w .slots) (omega arith)
 pub waiters-past : (w : Waiters) → length (w .slots) ≡ 32 → 32 < w .len → length (waitersOf w) ≡ 32
 unfolding waitersOf
 waiters-past w n h = ap (λ (l : List Slot). length l) (take-all (w .len) (w .slots) (omega arith)) ∙ n
+
+-- one that is not full has a place left
+pub waiters-room : (w : Waiters) → length (w .slots) ≡ 32 → length (waitersOf w) < 32 → w .len < 32
+unfolding waitersOf
+waiters-room w e h = omega (arith, simp length-take at h)
 
 -- without a slot: without the place where it first stands
 removed-here : (x y : Slot) (q : List Slot) (b : Bool) → (indexOf x q < length q → removeAt (indexOf x q) q ≡ without x q)

@@ -89,7 +89,7 @@ impl Waiters {
     }
 
     pub fn push_back(self, x: Slot) -> Waiters
-        requires { ⌜ self .len < 32 ⌝ }
+        requires { ⌜ length (waitersOf self) < 32 ⌝ }
         ensures { λ r. ⌜ Holds r (waitersOf self ++ x ∷ []) ⌝ }
     {
         let mut out = self;
@@ -100,7 +100,7 @@ impl Waiters {
     }
 
     pub fn push_front(self, x: Slot) -> Waiters
-        requires { ⌜ self .len < 32 ⌝ }
+        requires { ⌜ length (waitersOf self) < 32 ⌝ }
         ensures { λ r. ⌜ Holds r (x ∷ waitersOf self) ⌝ }
     {
         let before = self.slots;

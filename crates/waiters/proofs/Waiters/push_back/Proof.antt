@@ -1,3 +1,5 @@
+use Prim.Native.Nat.{_<_}
+use Rattle.waiters.proofs.Lists.{unmap, waiters-room}
 use borrow.Author.Needs.{needs}
 use mathlib.Core.Path.{_≡_}
 use native.Mathlib.Omega.{arith}
@@ -5,21 +7,29 @@ use native.Mathlib.Numerals.{add-one}
 use lib.ListN.{length}
 use lib.Seq.{take-suc-set}
 use Rattle.waiters.specs.View.{waitersOf}
-use Rattle.waiters.proofs.Lists.{unmap}
 use Rattle.waiters.proofs.Waiters.push_back.Statement.{statement}
 use Rattle.waiters.proofs.Waiters.push_back.Tie as tie
 
 element-set-from-x : tie.Need-element-set-from-x
-element-set-from-x c = search needs
+element-set-from-x c =
+    let w = c .args .self in
+    let n : length (w .slots) ≡ 32 = search (needs, unmap) in
+    let r : w .len < 32 = waiters-room w n (c .pre) in
+    omega arith
 
 add-out : tie.Need-add-out
-add-out c = search needs
+add-out c =
+    let w = c .args .self in
+    let n : length (w .slots) ≡ 32 = search (needs, unmap) in
+    let r : w .len < 32 = waiters-room w n (c .pre) in
+    search needs
 
 returns : tie.Need-returns
 unfolding waitersOf
 returns c =
     let w = c .args .self in
     let n : length (w .slots) ≡ 32 = search (needs, unmap) in
+    let r : w .len < 32 = waiters-room w n (c .pre) in
     record { fits = search needs; view = rw add-one (take-suc-set (w .slots) (w .len) (c .args .x) (omega arith)) }
 
 pub push-back-spec : {M : Type 1} → statement M
