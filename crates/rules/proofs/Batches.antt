@@ -5,7 +5,7 @@ use mathlib.Core.Path.{_≡_, refl, sym, subst, _∙_}
 use mathlib.Core.Bool.{false}
 use mathlib.Core.List.{List, [], _∷_, _++_}
 use mathlib.Core.Option.{Option, none, some}
-use borrow.Author.Tests.{ltb-true, ltb-false, leb-false, ne-eqb}
+use borrow.Author.Tests.{ltb-true, ltb-false, leb-false}
 use lib.Dec.{ltb}
 use lib.ListN.{length, length-append}
 use Rattle.rules.specs.Sizes.{width, batchCount}
@@ -16,7 +16,7 @@ use Rattle.rules.specs.Taking.{Meal, standingOf, standing, eat, taking, 
 use Rattle.rules.specs.Refusals.{full}
 use Rattle.rules.specs.Broken.{anyOf, total, isEmptyBatch}
 use Rattle.rules.specs.Sound.{AddUp, SoundPermits}
-use Rattle.rules.proofs.Bools.{by-cond, _nor_}
+use Rattle.rules.proofs.Bools.{by-cond, _nor_, not-zero}
 use Rattle.rules.proofs.Queues.{none-of, any-append}
 
 pub total-append : (as′ bs : List Batch) → total (as′ ++ bs) ≡ total as′ + total bs
@@ -27,7 +27,7 @@ total-append (a ∷ as′) bs = omega (arith, total-append as′ bs)
 -- a batch of its size
 sized : (n : ℕ) (c : Clock) → 0 < n → anyOf isEmptyBatch (record { size = n; clock = c } ∷ []) ≡ false
 unfolding anyOf
-sized n c h = ne-eqb n 0 (λ e. omega arith) nor refl
+sized n c h = not-zero n h nor refl
 
 -- Setting up.
 
@@ -67,7 +67,7 @@ eat-leaves (b ∷ bs) (suc n) c h z =
     by-cond (λ (m : Meal). Eaten (b ∷ bs) (suc n) (m .rest)) (ltb (suc n) (b .size))
     (λ t.
     let l = ltb-true (suc n) (b .size) t in
-    record { room = omega arith; sizes = ne-eqb (b .size - suc n) 0 (λ e. omega arith) nor k .1; sum = omega arith })
+    record { room = omega arith; sizes = not-zero (b .size - suc n) (omega arith) nor k .1; sum = omega arith })
     (λ t.
     let l = ltb-false (suc n) (b .size) t in
     let r = eat-leaves bs (suc n - b .size) (join c (b .clock)) (omega arith) (k .1) in
@@ -98,8 +98,7 @@ unfolding adding standing total anyOf
 sound-adding n c p l f h =
     let a = standing-sound p h in
     let b : List Batch = record { size = n; clock = c } ∷ [] in
-    set-up (adding n c p) (standing p ++ b) refl
-    (
+    set-up (adding n c p) (standing p ++ b) refl (
     record {
       room = omega (arith, length-append (standing p) b, standing-room (p .stock) (p .batches) f);
       sizes = any-append isEmptyBatch (standing p) b ∙ (a .sizes nor sized n c l);

@@ -2,7 +2,7 @@
 use Prim.Native.Nat.{ℕ, _+_, _-_, _≤_}
 use native.Mathlib.Omega.{arith}
 use mathlib.Core.Path.{_≡_, refl, sym, ap, _∙_}
-use mathlib.Core.Bool.{Bool, cond, not, _&&_}
+use mathlib.Core.Bool.{false, Bool, cond, not, _&&_}
 use mathlib.Core.List.{List, [], _∷_, _++_}
 use mathlib.Core.Option.{Option, none, some}
 use Rattle.rules.specs.declared.TaskId.{TaskId}
@@ -31,7 +31,8 @@ use Rattle.rules.proofs.Tasks.{reblocks}
 use Rattle.rules.proofs.KeepsQueue.{has-reservation}
 use Rattle.rules.proofs.KeepsTaking.{take-stock}
 use Rattle.rules.proofs.KeepsScan.{by-walk, granted-stock}
-use Rattle.rules.proofs.Decisions.{PollSays, poll-says, by-release, by-drop-queued, DropSays, drop-says}
+use Rattle.rules.proofs.Accepting.{}
+use Rattle.rules.proofs.Decisions.{unfulfilled, PollSays, poll-says, by-release, by-drop-queued, DropSays, drop-says}
 use Rattle.rules.proofs.Unchanged.{Untouched, untouched-roused, untouched-wake, untouched-closing}
 use Rattle.rules.proofs.KeepsSteps.{take-fits, sound-step}
 
@@ -50,8 +51,7 @@ stock-of u = ap (λ (p : Permits). p .stock) (u .permits)
 -- A scan grants what it takes.
 pub walk-grants : (q : List Slot) (s : State) (gs : List Grant) → stock (walk q s gs .state) + counts (walk q s gs .grants) ≡ stock s + counts gs
 walk-grants q s gs =
-    by-walk {P = λ l b hs. stock b + counts hs ≡ stock s + counts gs} {R = λ g. stock (g .state) + counts (g .grants) ≡ stock s + counts gs}
-    (
+    by-walk {P = λ l b hs. stock b + counts hs ≡ stock s + counts gs} {R = λ g. stock (g .state) + counts (g .grants) ≡ stock s + counts gs} (
     record {
       leaves = λ x l b hs k e. e;
       fits = λ x l b hs k e. omega (arith, k .1, granted-stock x b, counts-append hs (queueGrant x b ∷ []), counts-one (queueGrant x b));
@@ -118,15 +118,15 @@ drop-balance Unreserving t x s = balanced (stock-of (untouched-wake (withReserva
 drop-balance Returning t x s = release-balance t (askedAt x s) s
 drop-balance Nothing t x s = balanced refl
 
+-- who waits holds nothing, and gives nothing back
+waiting : (x : Slot) (s : State) → requestAt x s .holding ≡ false → 0 ≡ cond (unfulfilled x s) (askedAt x s) 0
+waiting x s e = ap (λ (b : Bool). cond (b && not (requestAt x s .completed)) (askedAt x s) 0) (sym e)
+
 -- by the marks of the request alone
-gives-back : (d : Dropping) (x : Slot) (s : State) → Sound s → DropSays d x s
-    → returned d (askedAt x s) ≡ cond (requestAt x s .holding && not (requestAt x s .completed)) (askedAt x s) 0
-gives-back Leaving x s h k = let w = h .queued x (sym (h .marked x) ∙ k) in ap (λ (b : Bool). cond (b && not (requestAt x s .completed)) (askedAt x s) 0) (sym (w .holding))
-gives-back Unreserving x s h k =
-    let r = h .reserves x (has-reservation x s (k .1)) in
-    ap (λ (b : Bool). cond (b && not (requestAt x s .completed)) (askedAt x s) 0) (sym (r .waits .holding))
-gives-back Returning x s h k =
-    sym (ap (λ (b : Bool). cond (b && not (requestAt x s .completed)) (askedAt x s) 0) (k .2) ∙ ap (λ (b : Bool). cond (not b) (askedAt x s) 0) (k .3))
+gives-back : (d : Dropping) (x : Slot) (s : State) → Sound s → DropSays d x s → returned d (askedAt x s) ≡ cond (unfulfilled x s) (askedAt x s) 0
+gives-back Leaving x s h k = waiting x s (h .queued x (sym (h .marked x) ∙ k) .holding)
+gives-back Unreserving x s h k = waiting x s (h .reserves x (has-reservation x s (k .1)) .waits .holding)
+gives-back Returning x s h k = sym (ap (λ (b : Bool). cond b (askedAt x s) 0) (k .2))
 gives-back Nothing x s h k = sym (ap (λ (b : Bool). cond b (askedAt x s) 0) (k .2))
 
 act-balance : (t : TaskId) (a : Act) (s : State) → Sound s → Balance s (releases a + givesUp a s) (effectOf t a s .grants) (effectOf t a s .state)

@@ -44,13 +44,11 @@ no-more-leave x s = record { queue = λ y m. absent-without y x (s .queue) m; re
 
 pub no-more-walk : (q : List Slot) (s : State) (gs : List Grant) → NoMore s (walk q s gs .state)
 no-more-walk q s gs =
-    by-walk {P = λ l b hs. NoMore s b} {R = λ g. NoMore s (g .state)}
-    (
+    by-walk {P = λ l b hs. NoMore s b} {R = λ g. NoMore s (g .state)} (
     record {
       leaves = λ x l b hs k n. no-more-then n (no-more-leave x b);
       fits = λ x l b hs k n.
-          no-more-then n
-          (
+          no-more-then n (
           record {
             queue = λ y m. ap (λ (r : List Slot). member y r) (granted-queue x b) ∙ absent-without y x (b .queue) m;
             reservation = λ y v. ap (λ (o : Option Slot). isThe y o) (granted-reservation x b) ∙ v;

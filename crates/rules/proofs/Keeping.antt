@@ -150,8 +150,7 @@ pub record Beside (x : Slot) (s b : State) : Type 0 where
 
 pub sound-beside : (x : Slot) (s b : State) → Sound s → Beside x s b → SoundAt b x → Sound b
 sound-beside x s b h k a =
-    sound-of b
-    (
+    sound-of b (
     record {
       slots = k .slots ∙ h .slots;
       tasks = omega (arith, h .tasks, k .tasks);

@@ -40,7 +40,8 @@ use Rattle.rules.specs.Promises.{Each, ClockFits, BatchFits, RequestFits
 use Rattle.rules.proofs.Eaches.{each-member, each-append, each-set, each-at, each-take, each-drop, each-replicate}
 use Rattle.rules.proofs.Tasks.{rouse-awake, by-cleared, rouse-unfair, rouse-unfinished, reblocks}
 use Rattle.rules.proofs.KeepsScan.{by-walk}
-use Rattle.rules.proofs.Decisions.{by-release, by-drop-queued, Releasable, MayTick, Allowed, accepted, startable}
+use Rattle.rules.proofs.Accepting.{Releasable, MayTick, Allowed, accepted, startable}
+use Rattle.rules.proofs.Decisions.{by-release, by-drop-queued}
 use Rattle.rules.proofs.KeepsSteps.{by-closing, by-refusal, fresh-number, sound-step, sound-fresh}
 use Rattle.rules.proofs.Counts.{first-fits, join-fits, tick-fits, empty-fits, taking-fits, adding-fits, Counted, counted-roused, task-fits, counted-task, counted-slots, slots-altered, counted-permits, request-fits}
 
@@ -102,8 +103,7 @@ module _ (n : ℕ) where
 
   counted-walk : (q : List Slot) (s : State) (gs : List Grant) → Counted n s → Counted n (walk q s gs .state)
   counted-walk =
-      by-walk {P = λ q s gs. Counted n s} {R = λ g. Counted n (g .state)}
-      (
+      by-walk {P = λ q s gs. Counted n s} {R = λ g. Counted n (g .state)} (
       record {
         leaves = λ x q s gs k h. counted-leave x s h;
         fits = λ x q s gs k h. counted-grant x s h;

@@ -76,6 +76,7 @@ altered-only x f s h =
       permits = h .permits;
     }
 
+-- a slot that has not the reservation is not the one reserved
 unreserved : (x : Slot) (o : Option Slot) → isThe x o ≡ false → o ≡ some x → {X : Type 0} → X
 unreserved x none e r = let z : _≡_ {A = ℕ} 0 1 = cc in absurd (omega arith)
 unreserved x (some y) e r = let z : y ≡ x = cc in clash (slot-same x y (sym z)) e
@@ -85,8 +86,7 @@ pub sound-aside : (x : Slot) (f : Request → Request) (s : State)
     → ((r : Request) → f r .ask ≡ r .ask) → ((r : Request) → f r .queued ≡ r .queued)
     → member x (s .queue) ≡ false → hasReservation x s ≡ false → Sound s → Sound (alterRequest x f s)
 sound-aside x f s a q m v h =
-    sound-beside x s (alterRequest x f s) h (altered-only x f s h)
-    (
+    sound-beside x s (alterRequest x f s) h (altered-only x f s h) (
     record {
       queued = λ e. clash e m;
       marked = field-altered (λ (r : Request). r .queued) x f s q ∙ h .marked x;
@@ -98,8 +98,7 @@ sound-aside x f s a q m v h =
 -- A Pending poll records the actor as the task of a request, waiting or not.
 pub sound-pending : (x : Slot) (t : TaskId) (s : State) → t .0 < length (s .tasks) → Sound s → Sound (alterRequest x (polledPending t) s)
 sound-pending x t s l h =
-    sound-beside x s b h (altered-only x (polledPending t) s h)
-    (
+    sound-beside x s b h (altered-only x (polledPending t) s h) (
     record {
       queued = λ m. waits (h .queued x m);
       marked = mark ∙ h .marked x;
@@ -128,8 +127,7 @@ sound-pending x t s l h =
 -- Leaving the queue, in it or not.
 pub sound-leave : (x : Slot) (s : State) → Sound s → Sound (leave x s)
 sound-leave x s h =
-    sound-beside x s b h
-    (
+    sound-beside x s b h (
     record {
       fairness = refl;
       tasks = refl;
@@ -141,8 +139,7 @@ sound-leave x s h =
       closed = λ e. (without-empty x (s .queue) (h .closed e .0), h .closed e .1);
       permits = h .permits;
     }
-    )
-    (
+    ) (
     record {
       queued = λ m. clash m out;
       marked = mark ∙ sym out;
@@ -210,8 +207,7 @@ pub record MayJoin (x : Slot) (f : Request → Request) (s : State) : Type 0 whe
 pub sound-joined : (x : Slot) (f : Request → Request) (s : State) (q : List Slot)
     → MayJoin x f s → Joins x s q → Sound s → Sound (alterRequest x f (withQueue q s))
 sound-joined x f s q k j h =
-    sound-beside x s b h
-    (
+    sound-beside x s b h (
     record {
       fairness = refl;
       tasks = refl;
@@ -223,8 +219,7 @@ sound-joined x f s q k j h =
       closed = λ e. clash e (k .«open»);
       permits = h .permits;
     }
-    )
-    (
+    ) (
     record {
       queued = λ m. waits-altered x f (withQueue q s) (h .slots) (k .used) (k .waits);
       marked = ap (λ (r : Request). r .queued) (request-altered x f s (k .used)) ∙ k .queued (requestAt x s) ∙ sym (j .within);
@@ -273,8 +268,7 @@ pub sound-reserved : (x : Slot) (t : TaskId) (s : State)
     → s .closed ≡ false → t .0 < length (s .tasks) → Sound s
     → Sound (alterRequest x (polledPending t) (withReservation (some x) (leave x s)))
 sound-reserved x t s u r g c o l h =
-    sound-beside x a b (sound-leave x s h)
-    (
+    sound-beside x a b (sound-leave x s h) (
     record {
       fairness = refl;
       tasks = refl;
@@ -286,15 +280,13 @@ sound-reserved x t s u r g c o l h =
       closed = λ e. clash e o;
       permits = h .permits;
     }
-    )
-    (
+    ) (
     record {
       queued = λ m. clash m (gone-without x (s .queue) (h .once));
       marked = mark ∙ sym (gone-without x (s .queue) (h .once));
       reserves = λ e.
           record {
-            waits = waits-altered x (polledPending t) (withReservation (some x) a) (sound-leave x s h .slots) used-left
-                (
+            waits = waits-altered x (polledPending t) (withReservation (some x) a) (sound-leave x s h .slots) used-left (
                 record {
                   asks = omega (arith, h .made x r .asks, ap (λ (q : Request). q .ask .asked) left);
                   holding = ap (λ (q : Request). q .holding) left ∙ g;
@@ -360,8 +352,7 @@ module _ (x : Slot) (o : Option Request) (s : State) where
       → (isStrict (s .fairness) ≡ false) × (0 < Option·getD o noRequest .ask .asked) × (Option·getD o noRequest .ask .least ≤ Option·getD o noRequest .ask .asked))
       → Sound s → Sound filled
   sound-filled l m v q w h =
-      sound-beside x s filled h (filled-only h)
-      (
+      sound-beside x s filled h (filled-only h) (
       record {
         queued = λ e. clash e m;
         marked = read (λ r. r .queued) ∙ q ∙ sym m;

@@ -175,8 +175,7 @@ module _ (x : Slot) (q : List Slot) (s : State) (w : Walking (x ∷ q) s) where
 -- what holds at every turn of a walk that starts sound
 pub sound-walk : (q : List Slot) (s : State) (gs : List Grant) → Walking q s → Sound (walk q s gs .state)
 sound-walk =
-    by-walk {P = λ q s gs. Walking q s} {R = λ g. Sound (g .state)}
-    (
+    by-walk {P = λ q s gs. Walking q s} {R = λ g. Sound (g .state)} (
     record {
       leaves = λ x q s gs k w. walking-leaves x q s w;
       fits = λ x q s gs k w. walking-fits x q s w k;

@@ -46,7 +46,8 @@ use Rattle.rules.proofs.KeepsQueue.{Joins, joins-back, joins-front, sou
 use Rattle.rules.proofs.KeepsTaking.{sound-take}
 use Rattle.rules.proofs.KeepsScan.{sound-scan}
 use Rattle.rules.proofs.Departing.{NoMore, no-more-then, no-more-take, no-more-scan, no-more-wake, no-more-roused, no-more-release}
-use Rattle.rules.proofs.Decisions.{DirectSays, direct-says, Queueing, PollSays, poll-says, by-release, by-drop-queued, DropSays, drop-says, Releasable, Pollable, HasSlot, Allowed, accepted, startable}
+use Rattle.rules.proofs.Accepting.{Releasable, Pollable, HasSlot, Allowed, accepted, startable}
+use Rattle.rules.proofs.Decisions.{DirectSays, direct-says, Queueing, PollSays, poll-says, by-release, by-drop-queued, DropSays, drop-says}
 
 -- Make.
 
@@ -104,8 +105,7 @@ module _ (t : TaskId) (x : Slot) (s : State) (l : t .0 < length (s .tasks)) (k :
       → Sound (alterRequest x (polledPending t) (alterRequest x (queuedAs true) (withQueue q s)))
   joining front q u j =
       subst Sound (sym (alter-twice x (queuedAs true) (polledPending t) (withQueue q s)))
-      (sound-joined x (λ r. polledPending t (queuedAs true r)) s q
-      (
+      (sound-joined x (λ r. polledPending t (queuedAs true r)) s q (
       record {
         used = k .used;
         unreserved = unreserved (u .unreserved);
@@ -338,8 +338,7 @@ no-request (suc n) (suc i) = no-request n i
 pub sound-empty : (s : State) → s .slots ≡ replicate slotCount none → s .queue ≡ [] → s .reservation ≡ none
     → length (s .tasks) ≤ maxTasks → SoundPermits (s .permits) → Sound s
 sound-empty s e q v l p =
-    sound-of s
-    (
+    sound-of s (
     record {
       slots = ap (λ (rs : List (Option Request)). length rs) e;
       tasks = l;

@@ -1,3 +1,4 @@
+pub mod Accepting
 pub mod Batches
 pub mod Bools
 pub mod Clocks

@@ -38,7 +38,8 @@ use Rattle.rules.proofs.Queues.{slot-same, member-middle, once-middle}
 use Rattle.rules.proofs.Eaches.{each-append}
 use Rattle.rules.proofs.KeepsQueue.{sound-leave}
 use Rattle.rules.proofs.KeepsScan.{Says, verdict-says, Walking, walking, walking-leaves, walking-fits, walking-passed}
-use Rattle.rules.proofs.Decisions.{PollSays, poll-says, Releasable, Allowed, accepted}
+use Rattle.rules.proofs.Accepting.{Releasable, Allowed, accepted}
+use Rattle.rules.proofs.Decisions.{PollSays, poll-says}
 use Rattle.rules.proofs.KeepsSteps.{sound-added}
 use Rattle.rules.proofs.Stranded.{Served, served-step, plain, taker-unqueued}
 

@@ -1,23 +1,24 @@
 -- Demand 3, proved: six promises about every run from an accepted fresh state, made by `new` or by `const_new`, with any starting clocks.
 -- `steps` is any list of steps, accepted and refused mixed, of any actors and any numbers: so each promise holds after every call of every run.
 use Prim.Native.Nat.{_+_}
-use mathlib.Core.Path.{_≡_}
+use mathlib.Core.Path.{_≡_, refl}
 use mathlib.Core.Bool.{false}
-use mathlib.Core.List.{List, map}
+use mathlib.Core.List.{List, [], _∷_, _++_, map}
 use mathlib.Core.Option.{some}
 use Rattle.rules.specs.declared.Fairness.the-variants.{StrictlyFair}
 use Rattle.rules.specs.declared.Step.{Step}
-use Rattle.rules.specs.State.{Batch, stock}
+use Rattle.rules.specs.State.{Batch, State, stock}
 use Rattle.rules.specs.Fresh.{Start, fresh, refuses12}
-use Rattle.rules.specs.Runs.{Said, run}
+use Rattle.rules.specs.Scan.{scan}
+use Rattle.rules.specs.Runs.{Said, step, run}
 use Rattle.rules.specs.Broken.{broken}
 use Rattle.rules.specs.Sound.{AddUp}
-use Rattle.rules.specs.Promises.{Each, grantedIn, releasedIn, givenUpIn, NobodyStranded, grantsOf, watchRun, PassesOnlySuch, CountsFit, StartFits, StepFits}
+use Rattle.rules.specs.Promises.{Each, grantedIn, releasedIn, givenUpIn, NobodyStranded, grantsOf, watchWalk, watchRun, PassesOnlySuch, CountsFit, StartFits, StepFits}
 use Rattle.rules.proofs.Soundness.{sound-unbroken}
 use Rattle.rules.proofs.KeepsSteps.{sound-run, sound-fresh}
 use Rattle.rules.proofs.Conservation.{run-balance}
 use Rattle.rules.proofs.Stranded.{served-run, served-fresh}
-use Rattle.rules.proofs.PassedOver.{watches-run, run-watched}
+use Rattle.rules.proofs.PassedOver.{Watches, watches-walk, watches-run, run-watched}
 use Rattle.rules.proofs.KeepsCounts.{fitting-run, fitting-fresh, counts-fit}
 
 module _ (start : Start) (accepted : refuses12 start ≡ false) (steps : List Step) where
@@ -43,10 +44,6 @@ module _ (start : Start) (accepted : refuses12 start ≡ false) (steps : List St
   pub passed-over : start .fairness ≡ StrictlyFair → Each (Each PassesOnlySuch) (watchRun steps (fresh start))
   passed-over f = run-watched steps (fresh start) (served-fresh start accepted f)
 
-  -- (The grants that are watched are those that the steps returned.)
-  pub watched : map grantsOf (watchRun steps (fresh start)) ≡ map (λ (o : Said). o .grants) (run steps (fresh start) .said)
-  watched = watches-run steps (fresh start)
-
   -- 5. Never broken: no state reached is one that 14 refuses.
   pub never-broken : broken (run steps (fresh start) .state) ≡ false
   never-broken = sound-unbroken (run steps (fresh start) .state) (sound-run steps (fresh start) (sound-fresh start accepted))
@@ -55,3 +52,18 @@ module _ (start : Start) (accepted : refuses12 start ≡ false) (steps : List St
   -- or batch number its size.
   pub counts-stay : StartFits start → Each StepFits steps → CountsFit (run steps (fresh start) .state)
   counts-stay f g = counts-fit (start .tasks) (run steps (fresh start) .state) (fitting-run (start .tasks) steps (fresh start) g (fitting-fresh start accepted f))
+
+-- What promise 4 watches is what happens. The grants watched are those that the steps returned, in order.
+pub watched-grants : (steps : List Step) (s : State) → map grantsOf (watchRun steps s) ≡ map (λ (o : Said). o .grants) (run steps s .said)
+watched-grants = watches-run
+
+-- And a watched scan makes the grants of the rules' own scan, and ends in its state.
+pub watched-scan : (s : State) → Watches (watchWalk (s .queue) s []) (scan s)
+unfolding scan
+watched-scan s = watches-walk (s .queue) s []
+
+-- Every call of a run is the last of some list of steps: a run goes on from the state that its first steps come to.
+pub run-goes-on : (steps rest : List Step) (s : State) → run (steps ++ rest) s .state ≡ run rest (run steps s .state) .state
+unfolding run
+run-goes-on [] rest s = refl
+run-goes-on (a ∷ steps) rest s = run-goes-on steps rest (step a s .state)

@@ -42,7 +42,8 @@ use Rattle.rules.proofs.Slots.{slot-beside, asks-altered}
 use Rattle.rules.proofs.Tasks.{Roused, roused-keeps, reblocks}
 use Rattle.rules.proofs.KeepsQueue.{filled, sound-leave}
 use Rattle.rules.proofs.Departing.{no-more-take}
-use Rattle.rules.proofs.Decisions.{mayPass, DirectSays, Taking, PollSays, poll-says, by-release, by-drop-queued, DropSays, drop-says, Releasable, Allowed, accepted}
+use Rattle.rules.proofs.Accepting.{Releasable, Allowed, accepted}
+use Rattle.rules.proofs.Decisions.{mayPass, DirectSays, Taking, PollSays, poll-says, by-release, by-drop-queued, DropSays, drop-says}
 use Rattle.rules.proofs.KeepsSteps.{newSlot, new-unqueued, sound-added, sound-drop-work, empties, empties-reservation, by-closing, by-refusal, by-run, sound-step, sound-fresh}
 use Rattle.rules.proofs.Unchanged.{fairness-step}
 use Rattle.rules.proofs.KeepsScan.{Walking, walking, walking-leaves, walking-fits, walking-passed, by-walk}
@@ -112,8 +113,7 @@ front-left x (y ∷ q) s b e l f g h =
 
 pub walk-strands-nobody : (q : List Slot) (s : State) (gs : List Grant) → Walking q s → AskTooMuch (walk q s gs .state .queue) (walk q s gs .state)
 walk-strands-nobody =
-    by-walk {P = λ q s gs. Walking q s} {R = λ g. AskTooMuch (g .state .queue) (g .state)}
-    (
+    by-walk {P = λ q s gs. Walking q s} {R = λ g. AskTooMuch (g .state .queue) (g .state)} (
     record {
       leaves = λ x q s gs k w. walking-leaves x q s w;
       fits = λ x q s gs k w. walking-fits x q s w k;

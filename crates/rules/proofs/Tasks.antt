@@ -81,7 +81,7 @@ rouse-each (x ∷ q) s =
     (by-cond (Roused s) (leb (leastAt x s) (stock s) && not (ownerFinished x s)) (λ e. rouse-awake (taskOf x s) s) (λ e. roused-none s))
     (rouse-each q _)
 
-rouse-by : (o : Option Slot) (s : State) → Roused s (wakeBy o s)
+pub rouse-by : (o : Option Slot) (s : State) → Roused s (wakeBy o s)
 rouse-by none s = rouse-each (s .queue) s
 rouse-by (some x) s = by-cond (Roused s) (leb (askedAt x s) (stock s)) (λ e. rouse-awake (taskOf x s) s) (λ e. roused-none s)
 
@@ -98,7 +98,7 @@ pub rouse-unfair : (s : State) → Roused (clearFinished s) (wakeUnfair s)
 unfolding wakeUnfair
 rouse-unfair s = rouse-by (clearFinished s .reservation) (clearFinished s)
 
-reblocks-each : (t : TaskId) (q : List Slot) (s : State) → Roused s (reblockEach t q s)
+pub reblocks-each : (t : TaskId) (q : List Slot) (s : State) → Roused s (reblockEach t q s)
 unfolding reblockEach
 reblocks-each t [] s = roused-none s
 reblocks-each t (x ∷ q) s =

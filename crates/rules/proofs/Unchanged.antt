@@ -67,8 +67,7 @@ untouched-closing s =
 
 pub fairness-walk : (q : List Slot) (s : State) (gs : List Grant) → walk q s gs .state .fairness ≡ s .fairness
 fairness-walk q s gs =
-    by-walk {P = λ l b hs. b .fairness ≡ s .fairness} {R = λ g. g .state .fairness ≡ s .fairness}
-    (
+    by-walk {P = λ l b hs. b .fairness ≡ s .fairness} {R = λ g. g .state .fairness ≡ s .fairness} (
     record {
       leaves = λ x l b hs k e. e;
       fits = λ x l b hs k e. granted-fairness x b ∙ e;
