@@ -13,7 +13,7 @@ use Rattle.rules.specs.Sizes.{width, largest}
 use Rattle.rules.specs.Clock.{Clock, join, tick, empty}
 use Rattle.rules.specs.Task.{Task, noTask}
 use Rattle.rules.specs.Request.{Request, noRequest}
-use Rattle.rules.specs.State.{Batch, Permits, State, stock, taskAt, requestAt, withPermits, alterTask, alterRequest}
+use Rattle.rules.specs.State.{Batch, Permits, State, stock, taskAt, requestAt, askedAt, withPermits, alterTask, alterRequest}
 use Rattle.rules.specs.Fresh.{firstBatch}
 use Rattle.rules.specs.Taking.{Meal, standingOf, standing, eat, Taken, taking, adding}
 use Rattle.rules.specs.Broken.{standingBatches}
@@ -138,6 +138,13 @@ module _ (n : ℕ) where
 
   pub request-fits : (x : Slot) (s : State) → Counted n s → ClockFits (requestAt x s .clock)
   request-fits x s h = clock-fits (slotAt x s) (slot-fits x s h)
+
+  ask-fits : (o : Option Request) → SlotFits n o → Option·getD o noRequest .ask .asked ≤ largest
+  ask-fits none h = omega arith
+  ask-fits (some r) h = h .asked
+
+  pub asked-fits : (x : Slot) (s : State) → Counted n s → askedAt x s ≤ largest
+  asked-fits x s h = ask-fits (slotAt x s) (slot-fits x s h)
 
   -- a task altered
   pub counted-task : (t : TaskId) (f : Task → Task) (s : State) → ClockFits (f (taskAt t s) .clock) → Counted n s → Counted n (alterTask t f s)

@@ -76,7 +76,7 @@ module _ (n : ℕ) where
   marks-pending t l r h = record { asked = h .asked; least = h .least; clock = h .clock; task = l }
 
   -- the queue, the reservation and whether it is closed are no counts
-  counted-leave : (x : Slot) (s : State) → Counted n s → Counted n (leave x s)
+  pub counted-leave : (x : Slot) (s : State) → Counted n s → Counted n (leave x s)
   counted-leave x s h = counted-slots n (leave x s) s refl refl (slots-altered n x (queuedAs false) s (marks-queued false) h) h
 
   counted-reservation : (v : Option Slot) (s : State) → Counted n s → Counted n (withReservation v s)
@@ -90,7 +90,7 @@ module _ (n : ℕ) where
       (join-fits _ _ (tick-fits (t .0) (taskAt t s .clock) l (task-fits n t s h)) (k .clock))
       (counted-permits n _ s (k .permits) h)
 
-  counted-grant : (x : Slot) (s : State) → Counted n s → Counted n (grantQueued x s)
+  pub counted-grant : (x : Slot) (s : State) → Counted n s → Counted n (grantQueued x s)
   unfolding grantQueued takeQueued
   counted-grant x s h =
       let k = taking-fits (askedAt x s) (requestAt x s .clock) (s .permits) (request-fits n x s h) (h .permits) in
@@ -163,7 +163,7 @@ module _ (n : ℕ) where
         counted-task n t (λ a. joined (s .permits .last) (ticked t a)) s (join-fits _ _ (tick-fits (t .0) _ l (task-fits n t s h)) (h .permits .last)) h
     counted-try Take t m l = counted-roused n (reblocks t (takeAs t m s)) (counted-take t m s l h)
 
-    counted-added : (t : TaskId) (m : ℕ) → Releasable t m s → 0 < m → Counted n (addReleased t m s)
+    pub counted-added : (t : TaskId) (m : ℕ) → Releasable t m s → 0 < m → Counted n (addReleased t m s)
     counted-added t m k l =
         let a = counted-task n t (ticked t) s (tick-fits (t .0) _ (k .tick l) (task-fits n t s h)) h in
         counted-permits n _ (alterTask t (ticked t) s)

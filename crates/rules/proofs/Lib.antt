@@ -8,6 +8,7 @@ pub mod Counts
 pub mod Decisions
 pub mod Departing
 pub mod Eaches
+pub mod GrantsFit
 pub mod Keeping
 pub mod KeepsCounts
 pub mod KeepsQueue

@@ -13,12 +13,13 @@ use Rattle.rules.specs.Scan.{scan}
 use Rattle.rules.specs.Runs.{Said, step, run}
 use Rattle.rules.specs.Broken.{broken}
 use Rattle.rules.specs.Sound.{AddUp}
-use Rattle.rules.specs.Promises.{Each, grantedIn, releasedIn, givenUpIn, NobodyStranded, grantsOf, watchWalk, watchRun, PassesOnlySuch, CountsFit, StartFits, StepFits}
+use Rattle.rules.specs.Promises.{Each, grantedIn, releasedIn, givenUpIn, NobodyStranded, grantsOf, watchWalk, watchRun, PassesOnlySuch, CountsFit, GrantFits, StartFits, StepFits}
 use Rattle.rules.proofs.Soundness.{sound-unbroken}
 use Rattle.rules.proofs.KeepsSteps.{sound-run, sound-fresh}
 use Rattle.rules.proofs.Conservation.{run-balance}
 use Rattle.rules.proofs.Stranded.{served-run, served-fresh}
 use Rattle.rules.proofs.PassedOver.{Watches, watches-walk, watches-run, run-watched}
+use Rattle.rules.proofs.GrantsFit.{grants-fit}
 use Rattle.rules.proofs.KeepsCounts.{fitting-run, fitting-fresh, counts-fit}
 
 module _ (start : Start) (accepted : refuses12 start ≡ false) (steps : List Step) where
@@ -46,12 +47,15 @@ module _ (start : Start) (accepted : refuses12 start ≡ false) (steps : List St
 
   -- 5. Never broken: no state reached is one that 14 refuses.
   pub never-broken : broken (run steps (fresh start) .state) ≡ false
-  never-broken = sound-unbroken (run steps (fresh start) .state) (sound-run steps (fresh start) (sound-fresh start accepted))
+  never-broken = sound-unbroken _ (sound-run steps (fresh start) (sound-fresh start accepted))
 
   -- 6. Counts fit: where the starting numbers and those of the steps are at most 4,294,967,295, no count or clock entry passes it, and no slot, task
-  -- or batch number its size.
+  -- or batch number its size; in the state and in the grants.
   pub counts-stay : StartFits start → Each StepFits steps → CountsFit (run steps (fresh start) .state)
-  counts-stay f g = counts-fit (start .tasks) (run steps (fresh start) .state) (fitting-run (start .tasks) steps (fresh start) g (fitting-fresh start accepted f))
+  counts-stay f g = counts-fit (start .tasks) _ (fitting-run (start .tasks) steps (fresh start) g (fitting-fresh start accepted f))
+
+  pub grants-stay : StartFits start → Each StepFits steps → Each (λ (o : Said). Each (GrantFits (start .tasks)) (o .grants)) (run steps (fresh start) .said)
+  grants-stay f g = grants-fit (start .tasks) steps (fresh start) g (fitting-fresh start accepted f)
 
 -- What promise 4 watches is what happens. The grants watched are those that the steps returned, in order.
 pub watched-grants : (steps : List Step) (s : State) → map grantsOf (watchRun steps s) ≡ map (λ (o : Said). o .grants) (run steps s .said)

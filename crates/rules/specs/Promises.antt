@@ -9,7 +9,8 @@ use lib.ListN.{length}
 use Rattle.rules.specs.declared.TaskId.{TaskId}
 use Rattle.rules.specs.declared.Slot.{Slot}
 use Rattle.rules.specs.declared.Grant.{Grant}
-use Rattle.rules.specs.declared.Taker.the-variants.{BySlot}
+use Rattle.rules.specs.declared.Taker.{Taker}
+use Rattle.rules.specs.declared.Taker.the-variants.{BySlot, ByTry}
 use Rattle.rules.specs.declared.Verdict.{Verdict}
 use Rattle.rules.specs.declared.Verdict.the-variants.{Leaves, Fits, Passed, Ends}
 use Rattle.rules.specs.declared.Dropping.{Dropping}
@@ -219,6 +220,16 @@ pub record CountsFit (s : State) : Type 0 where
   pub queue : Each (λ (x : Slot). x .0 < slotCount) (s .queue)
   pub queue-number : length (s .queue) ≤ slotCount
   pub reservation : (x : Slot) → s .reservation ≡ some x → x .0 < slotCount
+
+-- and so in a grant, where there are n tasks
+abbrev pub TakerFits : Taker → Type 0
+TakerFits (BySlot x) = x .0 < slotCount
+TakerFits ByTry = Unit {0}
+
+pub record GrantFits (n : ℕ) (g : Grant) : Type 0 where
+  pub taker : TakerFits (g .taker)
+  pub count : g .count ≤ largest
+  pub task : g .task .0 < n
 
 -- the numbers that a start and a step are given are at most 4,294,967,295
 pub record StartFits (a : Start) : Type 0 where
