@@ -25,7 +25,7 @@ use Rattle.rules.specs.Polling.{polling, pollWork, pollGrants, pollMark,
 use Rattle.rules.specs.Steps.{make, tryBy, poll, addReleased, release, dropping, dropWork, dropRequest, effectOf}
 use Rattle.rules.specs.Refusals.{refusal, returned}
 use Rattle.rules.specs.Runs.{step, unless, run}
-use Rattle.rules.specs.Promises.{counts, grantedIn, releases, givesUp, unlessRefused, overRun, releasedIn, givenUpIn}
+use Rattle.rules.specs.Promises.{counts, grantedIn, releases, givesUp, ifAccepted, overRun, releasedIn, givenUpIn}
 use Rattle.rules.specs.Sound.{Sound}
 use Rattle.rules.proofs.Tasks.{reblocks}
 use Rattle.rules.proofs.KeepsQueue.{has-reservation}
@@ -109,7 +109,8 @@ try-balance NoPermits t n s k = balanced refl
 try-balance Take t n s k = balanced-taking _ (k refl) (stock-of (untouched-roused (reblocks t (takeAs t n s))) ∙ take-stock t n s)
 
 -- what a drop brings: the permits of a holder that had not completed
-drop-balance : (d : Dropping) (t : TaskId) (x : Slot) (s : State) → Balance s (returned d (askedAt x s)) (dropWork d t x s .grants) (dropWork d t x s .state)
+drop-balance : (d : Dropping) (t : TaskId) (x : Slot) (s : State)
+    → Balance s (returned d (askedAt x s)) (dropWork d t x s .grants) (dropWork d t x s .state)
 unfolding dropWork
 drop-balance Leaving t x s =
     by-drop-queued (λ g. Balance s 0 (g .grants) (g .state)) x s (omega (arith, scan-grants (leave x s)))
@@ -146,18 +147,18 @@ act-balance t Sleep s h = balanced refl
 act-balance t Finish s h = balanced refl
 
 pub step-balance : (a : Step) (s : State) → Sound s
-    → stock (step a s .state) + counts (step a s .grants) ≡ stock s + unlessRefused (refusal a s) (releases (a .act) + givesUp (a .act) s)
+    → stock (step a s .state) + counts (step a s .grants) ≡ stock s + ifAccepted (refusal a s) (releases (a .act) + givesUp (a .act) s) 0
 unfolding step
 step-balance a s h = go (refusal a s)
   where
-    go : (o : Option ℕ) → Balance s (unlessRefused o (releases (a .act) + givesUp (a .act) s)) (unless o a s .grants) (unless o a s .state)
+    go : (o : Option ℕ) → Balance s (ifAccepted o (releases (a .act) + givesUp (a .act) s) 0) (unless o a s .grants) (unless o a s .state)
     go none = act-balance (a .actor) (a .act) s h
     go (some n) = balanced refl
 
 -- a sum over the steps is the sum of its two parts
-unless-sum : (o : Option ℕ) (m n : ℕ) → unlessRefused o (m + n) ≡ unlessRefused o m + unlessRefused o n
-unless-sum none m n = refl
-unless-sum (some r) m n = refl
+accepted-sum : (o : Option ℕ) (m n : ℕ) → ifAccepted o (m + n) 0 ≡ ifAccepted o m 0 + ifAccepted o n 0
+accepted-sum none m n = refl
+accepted-sum (some r) m n = refl
 
 pub run-balance : (as′ : List Step) (s : State) → Sound s
     → stock (run as′ s .state) + grantedIn (run as′ s .said) ≡ stock s + (releasedIn as′ s + givenUpIn as′ s)
@@ -165,4 +166,4 @@ unfolding run grantedIn overRun
 run-balance [] s h = omega arith
 run-balance (a ∷ as′) s h =
     let b = step a s .state in
-    omega (arith, run-balance as′ b (sound-step a s h), step-balance a s h, unless-sum (refusal a s) (releases (a .act)) (givesUp (a .act) s))
+    omega (arith, run-balance as′ b (sound-step a s h), step-balance a s h, accepted-sum (refusal a s) (releases (a .act)) (givesUp (a .act) s))

@@ -82,7 +82,8 @@ pub record TakenFits (k : Taken) : Type 0 where
 pub taking-fits : (n : ℕ) (c : Clock) (p : Permits) → ClockFits c → PermitsFit p → TakenFits (taking n c p)
 unfolding taking standing
 taking-fits n c p k h =
-    let m = eat-fits (standingOf (p .stock) (p .batches)) n (empty width) (standing-fits (p .stock) (p .batches) (h .stock) (h .batches)) empty-fits in
+    let b = standing-fits (p .stock) (p .batches) (h .stock) (h .batches) in
+    let m = eat-fits (standingOf (p .stock) (p .batches)) n (empty width) b empty-fits in
     record { permits = record { stock = omega (arith, h .stock); batches = m .rest; last = join-fits (p .last) c (h .last) k }; clock = m .clock }
 
 pub adding-fits : (n : ℕ) (c : Clock) (p : Permits) → p .stock + n ≤ largest → ClockFits c → PermitsFit p → PermitsFit (adding n c p)
@@ -166,7 +167,8 @@ module _ (n : ℕ) where
         requests = k;
       }
 
-  altered-fits : (f : Request → Request) → ((r : Request) → RequestFits n r → RequestFits n (f r)) → (o : Option Request) → SlotFits n o → SlotFits n (Option·map f o)
+  altered-fits : (f : Request → Request) → ((r : Request) → RequestFits n r → RequestFits n (f r))
+      → (o : Option Request) → SlotFits n o → SlotFits n (Option·map f o)
   altered-fits f k none h = tt
   altered-fits f k (some r) h = k r h
 

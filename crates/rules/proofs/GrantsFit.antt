@@ -91,10 +91,13 @@ module _ (n : ℕ) where
     release-grants-fit : (t : TaskId) (m : ℕ) → Releasable t m s → Each (GrantFits n) (release t m s .grants)
     release-grants-fit t m k =
         by-release (λ g. Each (GrantFits n) (g .grants)) t m s (λ e. tt)
-        (λ l f. scan-grants-fit (addReleased t m s) (record { sound = sound-added t m s k l (h .sound); counted = counted-added n s (h .counted) t m k l }))
+        (λ l f.
+        scan-grants-fit (addReleased t m s)
+        (record { sound = sound-added t m s k l (h .sound); counted = counted-added n s (h .counted) t m k l }))
         (λ l f. tt)
 
-    drop-grants-fit : (d : Dropping) (t : TaskId) (x : Slot) → Releasable t (returned d (askedAt x s)) s → Each (GrantFits n) (dropWork d t x s .grants)
+    drop-grants-fit : (d : Dropping) (t : TaskId) (x : Slot) → Releasable t (returned d (askedAt x s)) s
+        → Each (GrantFits n) (dropWork d t x s .grants)
     unfolding dropWork
     drop-grants-fit Leaving t x k =
         by-drop-queued (λ g. Each (GrantFits n) (g .grants)) x s
@@ -127,7 +130,8 @@ module _ (n : ℕ) where
       act-grants-fit s h (a .actor) (a .act) (omega (arith, k .actor, h .counted .number)) (k .allowed))
       (λ r e. tt)
 
-  pub grants-fit : (as′ : List Step) (s : State) → Each StepFits as′ → Fitting n s → Each (λ (o : Said). Each (GrantFits n) (o .grants)) (run as′ s .said)
+  pub grants-fit : (as′ : List Step) (s : State) → Each StepFits as′ → Fitting n s
+      → Each (λ (o : Said). Each (GrantFits n) (o .grants)) (run as′ s .said)
   unfolding run
   grants-fit [] s f h = tt
   grants-fit (a ∷ as′) s f h = (step-grants-fit a s h, grants-fit as′ (step a s .state) (f .1) (fitting-step n a s (f .0) h))

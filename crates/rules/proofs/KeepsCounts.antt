@@ -31,7 +31,7 @@ use Rattle.rules.specs.Taking.{taking, takeAs, takeQueued, direct}
 use Rattle.rules.specs.Scan.{leave, queueBack, queueFront, grantQueued, walk, scan}
 use Rattle.rules.specs.Waking.{wakeUnfair, reblock}
 use Rattle.rules.specs.Polling.{polling, pollWork, pollMark, polled, takesIn}
-use Rattle.rules.specs.Steps.{make, upgradeAsk, tryBy, poll, addReleased, release, dropping, dropWork, free, dropRequest, emptyQueue, dropReservation, closing, effectOf}
+use Rattle.rules.specs.Steps.{make, upgradeAsk, failTry, tryBy, poll, addReleased, release, dropping, dropWork, free, dropRequest, emptyQueue, dropReservation, closing, effectOf}
 use Rattle.rules.specs.Refusals.{returned}
 use Rattle.rules.specs.Runs.{step, run}
 use Rattle.rules.specs.Broken.{standingBatches}
@@ -53,7 +53,8 @@ upgrade-fits false m l = (l, omega arith)
 
 module _ (n : ℕ) where
   -- where a request keeps its ask and clock, and names a task
-  counted-altered : (x : Slot) (f : Request → Request) (s : State) → ((r : Request) → RequestFits n r → RequestFits n (f r)) → Counted n s → Counted n (alterRequest x f s)
+  counted-altered : (x : Slot) (f : Request → Request) (s : State) → ((r : Request) → RequestFits n r → RequestFits n (f r))
+      → Counted n s → Counted n (alterRequest x f s)
   counted-altered x f s k h = counted-slots n (alterRequest x f s) s refl refl (slots-altered n x f s k h) h
 
   -- a mark of a request changes nothing that counts
@@ -155,12 +156,15 @@ module _ (n : ℕ) where
         counted-altered x (polledPending t) (reblock t a) (marks-pending t l)
         (counted-roused n (reblocks t a) (counted-reservation (some x) (leave x s) (counted-leave x s h)))
 
+    counted-failed : (t : TaskId) → MayTick t s → Counted n (failTry t s)
+    counted-failed t l =
+        counted-task n t (λ a. joined (s .permits .last) (ticked t a)) s
+        (join-fits _ _ (tick-fits (t .0) _ l (task-fits n t s h)) (h .permits .last)) h
+
     counted-try : (d : Direct) (t : TaskId) (m : ℕ) → MayTick t s → Counted n (tryBy d t m s .state)
     unfolding tryBy
-    counted-try Shut t m l =
-        counted-task n t (λ a. joined (s .permits .last) (ticked t a)) s (join-fits _ _ (tick-fits (t .0) _ l (task-fits n t s h)) (h .permits .last)) h
-    counted-try NoPermits t m l =
-        counted-task n t (λ a. joined (s .permits .last) (ticked t a)) s (join-fits _ _ (tick-fits (t .0) _ l (task-fits n t s h)) (h .permits .last)) h
+    counted-try Shut t m l = counted-failed t l
+    counted-try NoPermits t m l = counted-failed t l
     counted-try Take t m l = counted-roused n (reblocks t (takeAs t m s)) (counted-take t m s l h)
 
     pub counted-added : (t : TaskId) (m : ℕ) → Releasable t m s → 0 < m → Counted n (addReleased t m s)

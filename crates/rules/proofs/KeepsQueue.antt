@@ -11,7 +11,7 @@ use Rattle.rules.specs.declared.Slot.{Slot}
 use Rattle.rules.specs.declared.Ask.{Ask}
 use Rattle.rules.specs.Sizes.{slotCount}
 use Rattle.rules.specs.Request.{Request, noRequest, queuedAs, polledPending}
-use Rattle.rules.specs.State.{State, isStrict, sameSlot, isThe, hasReservation, inUse, requestAt, withQueue, withReservation, withSlots, alterRequest, close}
+use Rattle.rules.specs.State.{State, strict, sameSlot, isThe, hasReservation, inUse, requestAt, withQueue, withReservation, withSlots, alterRequest, close}
 use Rattle.rules.specs.Scan.{without, leave, queueBack, queueFront}
 use Rattle.rules.specs.Steps.{free}
 use Rattle.rules.specs.Broken.{member, twice}
@@ -327,6 +327,10 @@ sound-reserved x t s u r g c o l h =
 
 -- A slot freed, and a slot filled.
 
+-- a reserving ask that neither 6 nor 7 refuses
+abbrev pub MayMake : Ask → State → Type 0
+MayMake a s = (strict s ≡ false) × (0 < a .asked) × (a .least ≤ a .asked)
+
 module _ (x : Slot) (o : Option Request) (s : State) where
   abbrev pub filled : State
   filled = withSlots (set (s .slots) (x .0) o) s
@@ -347,9 +351,7 @@ module _ (x : Slot) (o : Option Request) (s : State) where
 
   -- what is put there waits for nothing, and is well made if it reserves
   pub sound-filled : x .0 < slotCount → member x (s .queue) ≡ false → hasReservation x s ≡ false
-      → Option·getD o noRequest .queued ≡ false
-      → (Option·getD o noRequest .ask .reserving ≡ true
-      → (isStrict (s .fairness) ≡ false) × (0 < Option·getD o noRequest .ask .asked) × (Option·getD o noRequest .ask .least ≤ Option·getD o noRequest .ask .asked))
+      → Option·getD o noRequest .queued ≡ false → (Option·getD o noRequest .ask .reserving ≡ true → MayMake (Option·getD o noRequest .ask) s)
       → Sound s → Sound filled
   sound-filled l m v q w h =
       sound-beside x s filled h (filled-only h) (

@@ -19,8 +19,8 @@ use Rattle.rules.specs.Taking.{taking, takeQueued}
 use Rattle.rules.specs.Scan.{Granting, without, leave, verdict, grantQueued, queueGrant, turn, walk, scan}
 use Rattle.rules.specs.Broken.{anyOf, member, twice}
 use Rattle.rules.specs.Sound.{Sound}
-use Rattle.rules.proofs.Bools.{by-cond, by-test, clash}
-use Rattle.rules.proofs.Queues.{same-slot, by-slot, member-middle, member-behind, once-middle, without-middle, gone-without}
+use Rattle.rules.proofs.Bools.{by-cond}
+use Rattle.rules.proofs.Queues.{member-apart, by-slot, member-middle, member-behind, once-middle, without-middle, gone-without}
 use Rattle.rules.proofs.Slots.{slotAt, altered-beside}
 use Rattle.rules.proofs.Tasks.{by-task, rouse-awake}
 use Rattle.rules.proofs.Keeping.{sound-roused}
@@ -96,7 +96,8 @@ pub granted-unfinished : (x : Slot) (s : State) (t : TaskId)
 unfolding grantQueued takeQueued
 granted-unfinished x s t u h =
     by-task (λ (a : Task). isFinished (a .state) ≡ false) t (taskOf x s) (λ a. wakened (unblocked a)) (takeQueued x s) (λ e. refl)
-    (by-task (λ (a : Task). isFinished (a .state) ≡ false) t (taskOf x s) (joined (taking (askedAt x s) (requestAt x s .clock) (s .permits) .clock)) s (λ e. u) h)
+    (by-task (λ (a : Task). isFinished (a .state) ≡ false) t (taskOf x s)
+    (joined (taking (askedAt x s) (requestAt x s .clock) (s .permits) .clock)) s (λ e. u) h)
 
 -- A grant to a request that fits, and has not the reservation.
 pub sound-grant : (x : Slot) (s : State) → askedAt x s ≤ stock s → hasReservation x s ≡ false → Sound s → Sound (grantQueued x s)
@@ -135,7 +136,7 @@ module _ (x : Slot) (q : List Slot) (s : State) (w : Walking (x ∷ q) s) where
       → (y : Slot) → member y (w .passed) ≡ true → Says Passed y b
   still-skipped b o l u y m =
       let k = w .skipped y m in
-      let e = o y (by-test (sameSlot x y) (λ f. clash (subst (λ (z : Slot). member z (w .passed) ≡ true) (sym (same-slot x y f)) m) apart) (λ f. f)) in
+      let e = o y (member-apart x y (w .passed) apart m) in
       let r : requestAt y b ≡ requestAt y s = ap (λ (p : Option Request). Option·getD p noRequest) e in (
         u (taskOf y b) (subst (λ (q : Request). isFinished (taskAt (q .task) s .state) ≡ false) (sym r) (k .0)),
         omega (arith, k .1, ap (λ (q : Request). q .ask .asked) r),

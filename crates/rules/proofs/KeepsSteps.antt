@@ -42,7 +42,7 @@ use Rattle.rules.proofs.Slots.{free-request, used-below, alter-twice}
 use Rattle.rules.proofs.Batches.{first-adds-up, sound-adding}
 use Rattle.rules.proofs.Tasks.{roused-number, roused-keeps, rouse-unfinished, reblocks}
 use Rattle.rules.proofs.Keeping.{sound-of, sound-permits, sound-tasks, sound-alter-task, sound-roused, sound-unreserved, sound-wake}
-use Rattle.rules.proofs.KeepsQueue.{Joins, joins-back, joins-front, sound-joined, sound-aside, sound-pending, sound-leave, sound-reserved, sound-filled, sound-free, sound-close, not-reserved, not-queued, queued-unreserved, has-reservation}
+use Rattle.rules.proofs.KeepsQueue.{MayMake, Joins, joins-back, joins-front, sound-joined, sound-aside, sound-pending, sound-leave, sound-reserved, sound-filled, sound-free, sound-close, not-reserved, not-queued, queued-unreserved, has-reservation}
 use Rattle.rules.proofs.KeepsTaking.{sound-take}
 use Rattle.rules.proofs.KeepsScan.{sound-scan}
 use Rattle.rules.proofs.Departing.{NoMore, no-more-then, no-more-take, no-more-scan, no-more-wake, no-more-roused, no-more-release}
@@ -58,10 +58,6 @@ lowest-free [] = refl
 lowest-free (none ∷ rs) = refl
 lowest-free (some r ∷ rs) = lowest-free rs
 
--- an ask that 6 and 7 do not refuse
-abbrev pub MayMake : Ask → State → Type 0
-MayMake a s = a .reserving ≡ true → (strict s ≡ false) × (0 < a .asked) × (a .least ≤ a .asked)
-
 -- the slot that a new request takes
 abbrev pub newSlot : State → Slot
 newSlot s = record { 0 = lowestFree (s .slots) }
@@ -72,17 +68,14 @@ new-unused s = ap (λ (o : Option Request). isSome o) (lowest-free (s .slots))
 pub new-unqueued : (s : State) → Sound s → member (newSlot s) (s .queue) ≡ false
 new-unqueued s h = not-queued (newSlot s) s h (λ w. clash (w .used) (new-unused s))
 
-pub sound-make : (t : TaskId) (a : Ask) (s : State) → HasSlot s → MayMake a s → Sound s → Sound (make t a s .state)
+pub sound-make : (t : TaskId) (a : Ask) (s : State) → HasSlot s → (a .reserving ≡ true → MayMake a s) → Sound s → Sound (make t a s .state)
 unfolding make
 sound-make t a s l m h =
     sound-filled (newSlot s) _ s l (new-unqueued s h) (not-reserved (newSlot s) s h (λ r. clash (r .waits .used) (new-unused s))) refl m h
 
-pub plain-made : (k : Priority) (n : ℕ) (s : State) → MayMake (plainAsk k n) s
-plain-made k n s r = absurd (false≢true r)
-
-pub upgrade-made : (b : Bool) (n : ℕ) (s : State) → 0 < n → strict s ≡ b → MayMake (upgradeAsk b n) s
-upgrade-made true n s l e = plain-made Front n s
-upgrade-made false n s l e = λ r. (e, l, omega arith)
+pub upgrade-made : (b : Bool) (n : ℕ) (s : State) → 0 < n → strict s ≡ b → upgradeAsk b n .reserving ≡ true → MayMake (upgradeAsk b n) s
+upgrade-made true n s l e r = absurd (false≢true r)
+upgrade-made false n s l e r = (e, l, omega arith)
 
 -- Poll.
 
@@ -93,7 +86,9 @@ module _ (t : TaskId) (x : Slot) (s : State) (l : t .0 < length (s .tasks)) (k :
       by-test (requestAt x s .ask .reserving) (λ r. h .made x r .asks) (λ r.
       let p = and-other (not (requestAt x s .ask .reserving) && eqb (askedAt x s) 0) _ (k .asks) in
       by-test (eqb (askedAt x s) 0)
-      (λ z. clash (ap (λ (b : Bool). not (b || s .closed)) g ∙ ap (λ (b : Bool). not b) o) (p (ap (λ (b : Bool). not b && eqb (askedAt x s) 0) r ∙ z)))
+      (λ z.
+      clash (ap (λ (b : Bool). not (b || s .closed)) g ∙ ap (λ (b : Bool). not b) o)
+      (p (ap (λ (b : Bool). not b && eqb (askedAt x s) 0) r ∙ z)))
       (λ z. positive (askedAt x s) z))
 
   -- a plain request has no reservation
@@ -238,9 +233,8 @@ pub by-closing : (X : State → Type 0) (s : State)
 unfolding closing
 by-closing X s f g =
     by-cond X (s .closed) (λ c. f) (λ o.
-    subst X
-    (sym (ap (λ (b : State). dropReservation (s .reservation) b) (empty-closed (s .queue) s) ∙ drop-closed (s .reservation) (emptyQueue (s .queue) s)))
-    (g o))
+    let last = ap (λ (b : State). dropReservation (s .reservation) b) (empty-closed (s .queue) s) ∙ drop-closed (s .reservation) _ in
+    subst X (sym last) (g o))
 
 pub record Emptied (s b : State) : Type 0 where
   pub sound : Sound b
@@ -278,8 +272,8 @@ take-fits k n s e = subst (λ (d : Direct). DirectSays d k n s) e (direct-says k
 
 sound-act : (t : TaskId) (a : Act) (s : State) → t .0 < length (s .tasks) → Allowed t a s → Sound s → Sound (effectOf t a s .state)
 unfolding effectOf
-sound-act t (Acquire n) s l k h = sound-make t (plainAsk Back n) s k (plain-made Back n s) h
-sound-act t (AcquireBypassable n) s l k h = sound-make t (plainAsk Bypassable n) s k (plain-made Bypassable n s) h
+sound-act t (Acquire n) s l k h = sound-make t (plainAsk Back n) s k (λ r. absurd (false≢true r)) h
+sound-act t (AcquireBypassable n) s l k h = sound-make t (plainAsk Bypassable n) s k (λ r. absurd (false≢true r)) h
 sound-act t (AcquireReserving least n) s l k h = sound-make t (reservingAsk least n) s (k .3) (λ r. (k .0, k .1, k .2)) h
 sound-act t (Upgrade held wanted) s l k h =
     let more = k .0 .more in
@@ -329,10 +323,13 @@ fresh-number n zero rows = refl
 fresh-number n (suc k) rows = ap suc (fresh-number n k (drop n rows))
 
 -- no slot of a fresh state is in use
-no-request : (n i : ℕ) → _≡_ {A = Option Request} (getD (replicate n none) i none) none
-no-request zero i = refl
-no-request (suc n) zero = refl
-no-request (suc n) (suc i) = no-request n i
+no-request : (n i : ℕ) (rs : List (Option Request)) → rs ≡ replicate n none → isSome (getD rs i none) ≡ false
+no-request n i rs e = ap (λ (l : List (Option Request)). isSome (getD l i none)) e ∙ go n i
+  where
+    go : (n i : ℕ) → isSome {A = Request} (getD (replicate n none) i none) ≡ false
+    go zero i = refl
+    go (suc n) zero = refl
+    go (suc n) (suc i) = go n i
 
 -- nothing queued, nothing reserved, no slot in use
 pub sound-empty : (s : State) → s .slots ≡ replicate slotCount none → s .queue ≡ [] → s .reservation ≡ none
@@ -348,7 +345,7 @@ sound-empty s e q v l p =
     }
     )
     (λ x.
-    let free = free-request x s (ap (λ (rs : List (Option Request)). isSome (getD rs (x .0) none)) e ∙ ap (λ (o : Option Request). isSome o) (no-request slotCount (x .0))) in
+    let free = free-request x s (no-request slotCount (x .0) (s .slots) e) in
     let out = absent-empty x (s .queue) q in
     record {
       queued = λ m. clash m out;

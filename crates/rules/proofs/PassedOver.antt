@@ -32,7 +32,7 @@ use Rattle.rules.specs.Refusals.{returned, refusal}
 use Rattle.rules.specs.Runs.{Said, unless, step, run}
 use Rattle.rules.specs.Broken.{anyOf, member, twice}
 use Rattle.rules.specs.Sound.{Sound}
-use Rattle.rules.specs.Promises.{Each, Moment, grantsOf, Watched, watchTurn, watchWalk, watchScan, watchRelease, watchDrop, watchAct, unlessRefusedMoments, watchRun, PassesOnlySuch}
+use Rattle.rules.specs.Promises.{Each, Moment, grantsOf, Watched, watchTurn, watchWalk, watchScan, watchRelease, watchDrop, watchAct, ifAccepted, watchRun, PassesOnlySuch}
 use Rattle.rules.proofs.Bools.{positive, by-cond, clash, neither, or-left}
 use Rattle.rules.proofs.Queues.{slot-same, member-middle, once-middle}
 use Rattle.rules.proofs.Eaches.{each-append}
@@ -60,7 +60,8 @@ watches-turn : (v : Verdict) (x : Slot) (on : State → List Moment → Watched)
 watches-turn Leaves x on go s ms k = k (leave x s) ms
 watches-turn Fits x on go s ms k =
     let m : List Moment = record { grant = queueGrant x s; state = s } ∷ [] in
-    subst (λ (gs : List Grant). Watches (on (grantQueued x s) (ms ++ m)) (go (grantQueued x s) gs)) (grants-append ms m) (k (grantQueued x s) (ms ++ m))
+    let b = grantQueued x s in
+    subst (λ (gs : List Grant). Watches (on b (ms ++ m)) (go b gs)) (grants-append ms m) (k b (ms ++ m))
 watches-turn Passed x on go s ms k = k s ms
 watches-turn Ends x on go s ms k = record { grants = refl; state = refl }
 
@@ -87,7 +88,8 @@ watches-release t n s =
 
 watches-drop : (d : Dropping) (t : TaskId) (x : Slot) (s : State) → grantsOf (watchDrop d t x s) ≡ dropWork d t x s .grants
 unfolding watchDrop dropWork dropQueued
-watches-drop Leaving t x s = both-ways (strict s && (isFirst x (s .queue) || frontBypassable (leave x s .queue) (leave x s))) _ _ _ _ (watches-scan (leave x s)) refl
+watches-drop Leaving t x s =
+    both-ways (strict s && (isFirst x (s .queue) || frontBypassable (leave x s .queue) (leave x s))) _ _ _ _ (watches-scan (leave x s)) refl
 watches-drop Unreserving t x s = refl
 watches-drop Returning t x s = watches-release t (askedAt x s) s
 watches-drop Nothing t x s = refl
@@ -111,11 +113,11 @@ watches-act t Close s = at-once-grants s _
 watches-act t Sleep s = at-once-grants s _
 watches-act t Finish s = at-once-grants s _
 
-watches-step : (a : Step) (s : State) → grantsOf (unlessRefusedMoments (refusal a s) (watchAct (a .actor) (a .act) s)) ≡ step a s .grants
+watches-step : (a : Step) (s : State) → grantsOf (ifAccepted (refusal a s) (watchAct (a .actor) (a .act) s) []) ≡ step a s .grants
 unfolding step
 watches-step a s = go (refusal a s)
   where
-    go : (o : Option ℕ) → grantsOf (unlessRefusedMoments o (watchAct (a .actor) (a .act) s)) ≡ unless o a s .grants
+    go : (o : Option ℕ) → grantsOf (ifAccepted o (watchAct (a .actor) (a .act) s) []) ≡ unless o a s .grants
     go none = watches-act (a .actor) (a .act) s
     go (some n) = refl
 
@@ -175,7 +177,8 @@ not-from-queue g k x ahead behind e f y m = clash (subst (λ (l : List Slot). me
 
 module _ (s : State) (v : Served s) where
   -- on a strictly fair semaphore a poll takes for a request that is not queued
-  poll-watched : (p : Polling) (t : TaskId) (x : Slot) → PollSays p x s → Each PassesOnlySuch (map (λ (g : Grant). record { grant = g; state = s }) (pollGrants p t x s))
+  poll-watched : (p : Polling) (t : TaskId) (x : Slot) → PollSays p x s
+      → Each PassesOnlySuch (map (λ (g : Grant). record { grant = g; state = s }) (pollGrants p t x s))
   poll-watched Holds t x k = tt
   poll-watched IsClosed t x k = tt
   poll-watched Stays t x k = tt
@@ -194,7 +197,11 @@ module _ (s : State) (v : Served s) where
   unfolding tryBy
   try-watched Shut t n = tt
   try-watched NoPermits t n = tt
-  try-watched Take t n = (not-from-queue (record { grant = record { taker = ByTry; count = n; task = t }; state = s }) (λ y e. let z : _≡_ {A = ℕ} 0 1 = cc in absurd (omega arith)), tt)
+  try-watched Take t n = (
+    not-from-queue (record { grant = record { taker = ByTry; count = n; task = t }; state = s })
+        (λ y e. let z : _≡_ {A = ℕ} 0 1 = cc in absurd (omega arith)),
+    tt,
+  )
 
   release-watched : (t : TaskId) (n : ℕ) → Releasable t n s → Each PassesOnlySuch (watchRelease t n s)
   unfolding watchRelease
@@ -227,7 +234,7 @@ module _ (s : State) (v : Served s) where
   act-watched t Sleep k = tt
   act-watched t Finish k = tt
 
-  step-watched : (a : Step) (o : Option ℕ) → refusal a s ≡ o → Each PassesOnlySuch (unlessRefusedMoments o (watchAct (a .actor) (a .act) s))
+  step-watched : (a : Step) (o : Option ℕ) → refusal a s ≡ o → Each PassesOnlySuch (ifAccepted o (watchAct (a .actor) (a .act) s) [])
   step-watched a none e = act-watched (a .actor) (a .act) (accepted a s e .allowed)
   step-watched a (some n) e = tt
 

@@ -54,7 +54,8 @@ module _ (start : Start) (accepted : refuses12 start ≡ false) (steps : List St
   pub counts-stay : StartFits start → Each StepFits steps → CountsFit (run steps (fresh start) .state)
   counts-stay f g = counts-fit (start .tasks) _ (fitting-run (start .tasks) steps (fresh start) g (fitting-fresh start accepted f))
 
-  pub grants-stay : StartFits start → Each StepFits steps → Each (λ (o : Said). Each (GrantFits (start .tasks)) (o .grants)) (run steps (fresh start) .said)
+  pub grants-stay : StartFits start → Each StepFits steps
+      → Each (λ (o : Said). Each (GrantFits (start .tasks)) (o .grants)) (run steps (fresh start) .said)
   grants-stay f g = grants-fit (start .tasks) steps (fresh start) g (fitting-fresh start accepted f)
 
 -- What promise 4 watches is what happens. The grants watched are those that the steps returned, in order.

@@ -83,6 +83,11 @@ pub absent-empty : (x : Slot) (q : List Slot) → q ≡ [] → member x q ≡ fa
 unfolding anyOf
 absent-empty x q e = ap (λ (l : List Slot). member x l) e
 
+-- one that stands in a list and one that does not are apart
+pub member-apart : (x y : Slot) (q : List Slot) → member x q ≡ false → member y q ≡ true → sameSlot x y ≡ false
+member-apart x y q m n =
+    by-test (sameSlot x y) (λ e. clash (subst (λ (z : Slot). member z q ≡ true) (sym (same-slot x y e)) n) m) (λ e. e)
+
 -- x stands in the middle
 pub member-middle : (x : Slot) (p q : List Slot) → member x (p ++ x ∷ q) ≡ true
 unfolding anyOf

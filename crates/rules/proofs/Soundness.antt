@@ -149,7 +149,8 @@ module _ (s : State) (n : length (s .slots) ≡ slotCount) (c : Clauses s) where
   permits : SoundPermits (s .permits)
   permits bs e =
       record {
-        room = ltb-false batchCount (length bs) (subst (λ (o : Option (List Batch)). ltb batchCount (length (standingBatches o)) ≡ false) e (c .batches));
+        room =
+            ltb-false batchCount (length bs) (subst (λ (o : Option (List Batch)). ltb batchCount (length (standingBatches o)) ≡ false) e (c .batches));
         sizes = subst (λ (o : Option (List Batch)). anyOf isEmptyBatch (standingBatches o) ≡ false) e (c .sizes);
         sum = eqb-true (total bs) (stock s) (not-false _ (subst (λ (o : Option (List Batch)). differs (stock s) o ≡ false) e (c .sum)));
       }
@@ -175,7 +176,8 @@ unbroken-sound s n e = clauses-sound s n (clauses s e)
 -- And back.
 
 module _ (s : State) (h : Sound s) where
-  fails-reserved : (p : Slot → Bool) → ((x : Slot) → Reserves s x → p x ≡ false) → (o : Option Slot) → s .reservation ≡ o → anyOf p (reservedSlots o) ≡ false
+  fails-reserved : (p : Slot → Bool) → ((x : Slot) → Reserves s x → p x ≡ false)
+      → (o : Option Slot) → s .reservation ≡ o → anyOf p (reservedSlots o) ≡ false
   unfolding anyOf
   fails-reserved p f none e = refl
   fails-reserved p f (some x) e = f x (h .reserves x e) nor refl

@@ -37,7 +37,7 @@ use Rattle.rules.specs.Broken.{anyOf, member}
 use Rattle.rules.specs.Sound.{Sound}
 use Rattle.rules.specs.Promises.{AskTooMuch}
 use Rattle.rules.proofs.Bools.{by-test, clash, and-other, or-left, or-right}
-use Rattle.rules.proofs.Queues.{same-slot, same-itself, without-absent}
+use Rattle.rules.proofs.Queues.{member-apart, same-itself, without-absent}
 use Rattle.rules.proofs.Slots.{slot-beside, asks-altered}
 use Rattle.rules.proofs.Tasks.{Roused, roused-keeps, reblocks}
 use Rattle.rules.proofs.KeepsQueue.{filled, sound-leave}
@@ -89,7 +89,8 @@ pub nobody-queued : (s : State) → AskTooMuch [] s
 unfolding AskTooMuch
 nobody-queued s = tt
 
-pub first-ends : (x : Slot) (q : List Slot) (s : State) → stock s < askedAt x s → isBypassable (requestAt x s .ask .kind) ≡ false → AskTooMuch (x ∷ q) s
+pub first-ends : (x : Slot) (q : List Slot) (s : State)
+    → stock s < askedAt x s → isBypassable (requestAt x s .ask .kind) ≡ false → AskTooMuch (x ∷ q) s
 unfolding AskTooMuch
 first-ends x q s l b = (l, λ e. clash e b)
 
@@ -193,13 +194,14 @@ quieter-filled x o s m =
       queue = refl;
       asks = λ y e.
           ap (λ (p : Option Request). Option·getD p noRequest .ask)
-          (slot-beside x y o s (by-test (sameSlot x y) (λ f. clash (subst (λ (z : Slot). member z (s .queue) ≡ true) (sym (same-slot x y f)) e) m) (λ f. f)));
+          (slot-beside x y o s (member-apart x y (s .queue) m e));
       stock = omega arith;
     }
 
 module _ (s : State) (v : Served s) where
   -- a request that the direct rule denied asks too much, behind a queue of Bypassable ones or in front of any
-  denied : (x : Slot) → DirectSays NoPermits (requestAt x s .ask .kind) (askedAt x s) s → mayPass (requestAt x s .ask .kind) s ≡ true → stock s < askedAt x s
+  denied : (x : Slot) → DirectSays NoPermits (requestAt x s .ask .kind) (askedAt x s) s
+      → mayPass (requestAt x s .ask .kind) s ≡ true → stock s < askedAt x s
   denied x d p = leb-false (askedAt x s) (stock s) (and-other _ _ (d .1 (ap (λ (o : Option Slot). isSome o) (no-reservation v))) p)
 
   poll-serves : (p : Polling) (t : TaskId) (x : Slot) → PollSays p x s
@@ -282,9 +284,8 @@ module _ (s : State) (v : Served s) where
   act-serves t (TryUpgrade held wanted) k = try-serves (direct Front (wanted - held) s) t (wanted - held)
   act-serves t (Release n) k = release-serves t n k
   act-serves t (Drop x) k =
-      quieter-serves
-      (quieter-filled x none (dropWork (dropping x s) t x s .state) (sound-drop-work (dropping x s) t x s (drop-says x s) (k .1) (v .sound) .unqueued))
-      (drop-serves (dropping x s) t x (drop-says x s) (k .1))
+      let d = sound-drop-work (dropping x s) t x s (drop-says x s) (k .1) (v .sound) in
+      quieter-serves (quieter-filled x none (dropWork (dropping x s) t x s .state) (d .unqueued)) (drop-serves (dropping x s) t x (drop-says x s) (k .1))
   act-serves t Close k = closing-serves
   act-serves t Sleep k = quieter-serves (record { queue = refl; asks = λ y m. refl; stock = omega arith }) (v .nobody)
   act-serves t Finish k = quieter-serves (record { queue = refl; asks = λ y m. refl; stock = omega arith }) (v .nobody)
@@ -294,7 +295,9 @@ served-step a s v =
     record {
       sound = sound-step a s (v .sound);
       strictly = ap (λ (f : Fairness). isStrict f) (fairness-step a s) ∙ v .strictly;
-      nobody = by-refusal (λ o. AskTooMuch (o .state .queue) (o .state)) a s (λ e. act-serves s v (a .actor) (a .act) (accepted a s e .allowed)) (λ n e. v .nobody);
+      nobody =
+          by-refusal (λ o. AskTooMuch (o .state .queue) (o .state)) a s
+          (λ e. act-serves s v (a .actor) (a .act) (accepted a s e .allowed)) (λ n e. v .nobody);
     }
 
 pub served-run : (as′ : List Step) (s : State) → Served s → Served (run as′ s .state)

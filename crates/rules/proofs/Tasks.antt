@@ -27,7 +27,9 @@ by-task X t u f s h k =
     (λ e.
     let same : u .0 ≡ t .0 = eqb-true (u .0) (t .0) e in
     elim (decLt (u .0) (length (s .tasks))) [
-      | yes l ↦ subst (λ (i : ℕ). X (getD (set (s .tasks) (u .0) (f (taskAt u s))) i noTask)) same (subst X (sym (getD-set-same (s .tasks) (u .0) _ noTask l)) (h (sym same)))
+      | yes l ↦
+          subst (λ (i : ℕ). X (getD (set (s .tasks) (u .0) (f (taskAt u s))) i noTask)) same
+          (subst X (sym (getD-set-same (s .tasks) (u .0) _ noTask l)) (h (sym same)))
       | no l ↦ subst (λ (ts : List Task). X (getD ts (t .0) noTask)) (sym (set-out (s .tasks) (u .0) _ (omega arith))) k
     ])
     (λ e. subst X (sym (getD-set-other (s .tasks) (u .0) (t .0) _ noTask (λ p. eqb-false (u .0) (t .0) e (sym p)))) k)

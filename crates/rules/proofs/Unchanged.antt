@@ -61,7 +61,8 @@ untouched-closing s =
     go : (o : Option Slot) → Untouched (emptyQueue (s .queue) s) (dropReservation o (emptyQueue (s .queue) s))
     go none = untouched (emptyQueue (s .queue) s)
     go (some x) =
-        untouched-then (record { fairness = refl; permits = refl }) (untouched-roused (rouse-unfinished x (withReservation none (emptyQueue (s .queue) s))))
+        untouched-then (record { fairness = refl; permits = refl })
+        (untouched-roused (rouse-unfinished x (withReservation none (emptyQueue (s .queue) s))))
 
 -- Fairness.
 
@@ -93,7 +94,9 @@ fairness-poll IsClosed t x s = refl
 fairness-poll Stays t x s = refl
 fairness-poll QueuesBack t x s = refl
 fairness-poll QueuesFront t x s = refl
-fairness-poll TakesReserved t x s = untouched-wake (takeAs t (askedAt x s) (withReservation none s)) .fairness ∙ fairness-take t (askedAt x s) (withReservation none s)
+fairness-poll TakesReserved t x s =
+    let a = withReservation none s in
+    untouched-wake (takeAs t (askedAt x s) a) .fairness ∙ fairness-take t (askedAt x s) a
 fairness-poll Takes t x s = untouched-roused (reblocks t (leave x (takeAs t (askedAt x s) s))) .fairness ∙ fairness-take t (askedAt x s) s
 fairness-poll Reserves t x s = untouched-roused (reblocks t (withReservation (some x) (leave x s))) .fairness
 

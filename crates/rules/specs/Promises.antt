@@ -77,15 +77,15 @@ givesUp Close s = 0
 givesUp Sleep s = 0
 givesUp Finish s = 0
 
--- what an accepted step counts for; a refused one counts for nothing
-abbrev pub unlessRefused : Option ℕ → ℕ → ℕ
-unlessRefused none n = n
-unlessRefused (some r) n = 0
+-- what is said of an accepted step, or of a refused one
+abbrev pub ifAccepted {ℓ} : {A : Type ℓ} → Option ℕ → A → A → A
+ifAccepted none a r = a
+ifAccepted (some n) a r = r
 
 -- the sum over the accepted steps of a run, each in the state that it meets
 unfoldable pub overRun : (Act → State → ℕ) → List Step → State → ℕ
 overRun f [] s = 0
-overRun f (a ∷ as′) s = unlessRefused (refusal a s) (f (a .act) s) + overRun f as′ (step a s .state)
+overRun f (a ∷ as′) s = ifAccepted (refusal a s) (f (a .act) s) 0 + overRun f as′ (step a s .state)
 
 -- Permits released: the sum over the accepted releases.
 abbrev pub releasedIn : List Step → State → ℕ
@@ -164,14 +164,10 @@ watchAct t Close s = atOnce t Close s
 watchAct t Sleep s = atOnce t Sleep s
 watchAct t Finish s = atOnce t Finish s
 
-abbrev pub unlessRefusedMoments : Option ℕ → List Moment → List Moment
-unlessRefusedMoments none ms = ms
-unlessRefusedMoments (some n) ms = []
-
 -- for each step of a run, its grants with the moments when they are made
 unfoldable pub watchRun : List Step → State → List (List Moment)
 watchRun [] s = []
-watchRun (a ∷ as′) s = unlessRefusedMoments (refusal a s) (watchAct (a .actor) (a .act) s) ∷ watchRun as′ (step a s .state)
+watchRun (a ∷ as′) s = ifAccepted (refusal a s) (watchAct (a .actor) (a .act) s) [] ∷ watchRun as′ (step a s .state)
 
 -- a Bypassable request of an unfinished task, asking for more than is in stock
 pub record MayBePassed (s : State) (y : Slot) : Type 0 where
