@@ -31,7 +31,6 @@ use Rattle.rules.proofs.Tasks.{reblocks}
 use Rattle.rules.proofs.KeepsQueue.{has-reservation}
 use Rattle.rules.proofs.KeepsTaking.{take-stock}
 use Rattle.rules.proofs.KeepsScan.{by-walk, granted-stock}
-use Rattle.rules.proofs.Accepting.{}
 use Rattle.rules.proofs.Decisions.{unfulfilled, PollSays, poll-says, by-release, by-drop-queued, DropSays, drop-says}
 use Rattle.rules.proofs.Unchanged.{Untouched, untouched-roused, untouched-wake, untouched-closing}
 use Rattle.rules.proofs.KeepsSteps.{take-fits, sound-step}
