@@ -39,7 +39,7 @@ unfolding direct
 direct-says k n s =
     by-cond (λ d. DirectSays d k n s) (s .closed) (λ c. c) (λ c.
     by-cond (λ d. DirectSays d k n s) (reserved s) (λ r. (c, λ u. clash r u)) (λ r.
-    by-cond (λ d. DirectSays d k n s) (mayPass k s && leb n (stock s))
+    by-cond (λ d. DirectSays d k n s) (mayPass k s && leb n (stock s)) {x = Take} {y = NoPermits}
     (λ e. let b = both (mayPass k s) (leb n (stock s)) e in (c, r, b .0, leb-true n (stock s) (b .1)))
     (λ e. (c, λ u. e))))
 
