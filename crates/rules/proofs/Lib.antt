@@ -2,9 +2,9 @@ pub mod Accepting
 pub mod Batches
 pub mod Bools
 pub mod Clocks
-pub mod Decimal
 pub mod Conservation
 pub mod Counts
+pub mod Decimal
 pub mod Decisions
 pub mod Departing
 pub mod Eaches
@@ -27,5 +27,5 @@ pub mod Soundness
 pub mod Starred
 pub mod Stranded
 pub mod Tasks
-pub mod Worked
 pub mod Unchanged
+pub mod Worked

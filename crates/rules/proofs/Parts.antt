@@ -8,7 +8,7 @@ use lib.Dec.{eqb}
 use lib.ListN.{length, getD, take, drop, length-drop, drop-of-length-le}
 use lib.Seq.{drop-drop}
 use borrow.Author.Tests.{eqb-true}
-use Rattle.rules.specs.Text.{lineFeed, onFirst, parts, joinedBy, before, Line, linesOf, lines}
+use Rattle.rules.specs.Text.{lineFeed, onFirst, parts, joinedBy, before, linesOf, lines}
 
 pub before-length : (b : ℕ) (s : List ℕ) → length (before b s) ≤ length s
 unfolding before

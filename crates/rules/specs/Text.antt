@@ -109,6 +109,6 @@ lastDigits zero n = []
 lastDigits (suc k) n =
     elim (ltb n 10) [ true ↦ (code "0" + n) ∷ [] | false ↦ lastDigits k (n / 10) ++ (code "0" + n % 10) ∷ [] ]
 
--- the digits of a number, which are never more than one more than itself
+-- the digits of a number: it has no more of them than itself and one
 unfoldable pub digits : ℕ → List ℕ
 digits n = lastDigits (suc n) n

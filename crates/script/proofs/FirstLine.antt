@@ -2,9 +2,9 @@
 use Prim.Native.Nat.{ℕ, min, _+_, _≤_, _<_}
 use native.Mathlib.Omega.{arith}
 use mathlib.Core.Path.{_≡_, refl, ap, sym, subst, _∙_}
-use mathlib.Core.Bool.{true, false, and-true, and-false}
+use mathlib.Core.Bool.{and-true, and-false}
 use mathlib.Core.List.{List, [], _∷_}
-use mathlib.Core.Option.{Option, none, some, Option·map}
+use mathlib.Core.Option.{Option, none, some}
 use lib.Dec.{eqb}
 use lib.ListN.{length, drop}
 use borrow.Author.Tests.{eq-eqb, ne-eqb}
@@ -20,7 +20,7 @@ use Rattle.text.specs.declared.Number.the-variants.{Is, Not}
 use Rattle.text.specs.declared.Reading.{Reading}
 use Rattle.text.specs.declared.Reading.the-variants.{Last, Then, Other}
 use Rattle.text.specs.Reading.{letterOf, told, ReadAt}
-use Rattle.script.specs.Opening.{makerWithin, startNamed, startWithin, tasksBy, makerBy, stockBy, tasksOn, makerOn, stockOn}
+use Rattle.script.specs.Opening.{makerWithin, startWithin, tasksBy, stockBy, tasksOn, makerOn, stockOn}
 
 -- a field is a text of one byte where its letter is
 letter-is : (f : List ℕ) (c : ℕ) → 0 < c → same f (c ∷ []) ≡ eqb (letterOf f) c

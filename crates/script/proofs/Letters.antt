@@ -1,16 +1,15 @@
 -- A letter that says nothing with as many numbers.
 use Prim.Native.Nat.{ℕ}
-use mathlib.Core.Path.{_≡_, refl, ap, sym, _∙_}
-use mathlib.Core.Bool.{Bool, true, false, cond, _&&_, and-true, and-false}
+use mathlib.Core.Path.{_≡_, refl}
+use mathlib.Core.Bool.{Bool, true, false, cond, and-false}
 use mathlib.Core.List.{List, [], _∷_}
-use mathlib.Core.Option.{Option, none, some, Option·map}
+use mathlib.Core.Option.{Option, none}
 use borrow.Author.Tests.{ne-eqb}
 use Rattle.rules.specs.declared.Act.{Act}
-use Rattle.rules.specs.declared.Step.{Step}
 use Rattle.rules.specs.Text.{same}
-use Rattle.rules.specs.Script.{actOf, stepWith}
+use Rattle.rules.specs.Script.{actOf}
 use Rattle.text.specs.Reading.{letterOf}
-use Rattle.script.specs.Saying.{within, saying}
+use Rattle.script.specs.Saying.{saying}
 
 -- neither way a step
 nothing : (b : Bool) → cond {A = Option Act} b none none ≡ none

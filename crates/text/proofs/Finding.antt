@@ -1,11 +1,11 @@
 -- The line at a place of a script: what its line feed, or the want of one, says of the script's lines.
-use Prim.Native.Nat.{ℕ, _+_, _-_, _≤_, _<_}
+use Prim.Native.Nat.{ℕ, _≤_, _<_}
 use native.Mathlib.Omega.{arith}
-use mathlib.Core.Path.{_≡_, refl, ap, sym, _∙_}
-use mathlib.Core.List.{List, [], _∷_}
+use mathlib.Core.Path.{_≡_, sym, _∙_}
+use mathlib.Core.List.{List}
 use lib.ListN.{length, take, drop, length-drop}
 use lib.Seq.{take-all}
-use Rattle.rules.specs.Text.{lineFeed, before, lines}
+use Rattle.rules.specs.Text.{lineFeed, before}
 use Rattle.rules.proofs.Parts.{before-take, line-ended, line-unended, no-line}
 use Rattle.text.specs.declared.NextLine.the-variants.{Ended, Unended, End}
 use Rattle.text.specs.Reading.{Found, NextIs}

@@ -1,8 +1,8 @@
 -- A number's digits in a buffer: one digit, or those of its tenth and one more.
 use Prim.Native.Nat.{ℕ, _+_, _/_, _%_, _≤_, _<_}
 use native.Mathlib.Omega.{arith}
-use mathlib.Core.Path.{_≡_, ap, _∙_}
-use mathlib.Core.List.{List, [], _∷_, _++_}
+use mathlib.Core.Path.{ap, _∙_}
+use mathlib.Core.List.{List, [], _∷_}
 use lib.ListN.{length, set, length-append}
 use Rattle.rules.specs.Text.{digits}
 use Rattle.rules.proofs.Decimal.{digits-small, digits-large}
