@@ -16,8 +16,7 @@ acquire-requires c κs = search needs
 
 update-clock-requires : tie.Need-update-clock-requires
 update-clock-requires c κs =
-    let a = c .before .before .before .before .before .before in
-    (
+    let a = c .before .before .before .before .before .before in (
       within-width (a .args .s) (a .args .me) (a .pre .0) (a .pre .2),
       subst (λ (t : Task). getD (t .clock) (a .args .me .0) 0 < largest) (sym (c .before .before .before .before .get .ensures)) (a .pre .2 .entry),
     )

@@ -1,0 +1,46 @@
+-- `printing::print_taker`: the slot, or `t`.
+use borrow.Author.Needs.{needs}
+use Rattle.printing.proofs.Chain.{printed-slot, printed-try}
+use Rattle.printing.proofs.print_taker.Statement.{statement}
+use Rattle.printing.proofs.print_taker.Tie as tie
+
+enum-known-t : tie.Need-enum-known-t
+enum-known-t c = search needs
+
+print-small-requires : tie.Need-print-small-requires
+print-small-requires c κs = search needs
+
+enum-told : tie.Need-enum-told
+enum-told c = search needs
+
+slice-aggregate-put : tie.Need-slice-aggregate-put
+slice-aggregate-put c = search needs
+
+put-requires : tie.Need-put-requires
+put-requires c κs = search needs
+
+same-length : tie.Need-same-length
+same-length c = search needs
+
+returns : tie.Need-returns
+returns c = search (printed-slot, needs)
+
+same-length-2 : tie.Need-same-length-2
+same-length-2 c = search needs
+
+returns-2 : tie.Need-returns-2
+returns-2 c = search (printed-try, needs)
+
+pub print-taker-spec : {M : Type 1} → statement M
+print-taker-spec =
+    tie.close
+    (tie.spec
+    enum-known-t
+    print-small-requires
+    enum-told
+    slice-aggregate-put
+    put-requires
+    same-length
+    returns
+    same-length-2
+    returns-2)

@@ -1,0 +1,58 @@
+-- What the printers write, as the rules see it.
+use Prim.Native.Nat.{ℕ, _≤_}
+use mathlib.Core.List.{List, [], _∷_, _++_, map}
+use lib.ListN.{length, drop}
+use Rattle.rules.specs.declared.Grant.{Grant}
+use Rattle.rules.specs.Steps.{Answer as RuleAnswer}
+use Rattle.rules.specs.Steps.Answer.{done, granted, pending, closed, none-left, made, refused}
+use Rattle.rules.specs.Text.{space, comma, joinedBy, digits}
+use Rattle.rules.specs.Script.{answerText, closedText, takerText, grantsText, endLine}
+use Rattle.text.specs.Writing.{Appended}
+use Rattle.printing.specs.declared.Answer.{Answer}
+use Rattle.printing.specs.declared.Answer.the-variants.{Done, Granted, Pending, Closed, NoneLeft, Made, Refused}
+use Rattle.printing.specs.declared.Counts.{Counts}
+
+-- a text of at most so many bytes, written into a buffer
+pub record Printed (most : ℕ) (old : List ℕ) (at : ℕ) (text new : List ℕ) (r : ℕ) : Type 0 where
+  pub written : Appended old at text new r
+  pub short : length text ≤ most
+
+-- the answer of the rules
+abbrev pub answered : Answer → RuleAnswer
+answered Done = done
+answered Granted = granted
+answered Pending = pending
+answered Closed = closed
+answered NoneLeft = none-left
+answered (Made x) = made x
+answered (Refused n) = refused n
+
+-- the takers of some grants, joined by commas
+abbrev pub takersText : List Grant → List ℕ
+takersText gs = joinedBy comma (map (λ (g : Grant). takerText (g .taker)) gs)
+
+-- a comma before each, and the same but for the first
+unfoldable pub eachBehindComma : List Grant → List ℕ
+eachBehindComma [] = []
+eachBehindComma (g ∷ gs) = comma ∷ takerText (g .taker) ++ eachBehindComma gs
+
+abbrev pub restText : List Grant → List ℕ
+restText gs = eachBehindComma (drop 1 gs)
+
+-- available, stock, closed 0 or 1 and queue length, a space behind each
+abbrev pub countsText : Counts → List ℕ
+countsText c =
+    digits (c .available) ++ space ∷ [] ++ (digits (c .stock) ++ space ∷ []) ++ (closedText (c .closed) ++ space ∷ []) ++ (digits (c .queued) ++ space ∷ [])
+
+-- the whole line
+abbrev pub lineText : RuleAnswer → Counts → List Grant → List ℕ
+lineText a c gs =
+    endLine
+    (joinedBy space
+    (answerText a
+    ∷ digits (c .available)
+    ∷ digits (c .stock)
+    ∷ closedText (c .closed)
+    ∷ digits (c .queued)
+    ∷ grantsText gs
+    ∷ []))

@@ -1,0 +1,156 @@
+// The line that a step prints: its answer, what the state shows, and its grants.
+ghost use mathlib.Core.Path.{_≡_};
+ghost use mathlib.Core.List.{_∷_, _++_, []};
+ghost use Prim.Native.Nat.{_+_, _≤_, _<_};
+ghost use lib.ListN.{length, take};
+ghost use Rattle.rules.specs.Sizes.{slotCount};
+ghost use Rattle.rules.specs.Text.{space, comma, digits};
+ghost use Rattle.rules.specs.Script.{closedText, takerText, grantsText, answerText};
+ghost use Rattle.grants.specs.View.{grantsOf};
+ghost use Rattle.printing.specs.Printed.{Printed, answered, takersText, restText, countsText, lineText};
+use grants::Grants;
+use rules::Grant;
+use rules::Slot;
+use rules::Taker;
+
+// What a step answers.
+pub enum Answer {
+    Done,
+    Granted,
+    Pending,
+    Closed,
+    NoneLeft,
+    Made(Slot),
+    Refused(u8),
+}
+
+// What a line shows of the state: available, stock, closed or not, queue length.
+pub struct Counts {
+    pub available: u32,
+    pub stock: u32,
+    pub closed: bool,
+    pub queued: u32,
+}
+
+// A byte's number: at most three digits.
+fn print_small(buf: &mut [u8], at: usize, n: u8) -> usize
+    requires { ⌜ at + 3 ≤ length (now buf) ⌝ }
+    ensures { λ r. ⌜ Printed 3 (now (buf .entry)) at (digits n) (now (buf .exit)) r ⌝ }
+{
+    text::print_number(buf, at, n as u32)
+}
+
+// A number and a space.
+fn print_field(buf: &mut [u8], at: usize, n: u32) -> usize
+    requires { ⌜ at + 11 ≤ length (now buf) ⌝ }
+    ensures { λ r. ⌜ Printed 11 (now (buf .entry)) at (digits n ++ space ∷ []) (now (buf .exit)) r ⌝ }
+{
+    let p = text::print_number(buf, at, n);
+    text::put(buf, p, b" ")
+}
+
+fn bit(b: bool) -> u32
+    ensures { λ r. ⌜ digits r ≡ closedText b ⌝ }
+{
+    if b { 1 } else { 0 }
+}
+
+fn print_counts(buf: &mut [u8], at: usize, c: Counts) -> usize
+    requires { ⌜ at + 44 ≤ length (now buf) ⌝ }
+    ensures { λ r. ⌜ Printed 44 (now (buf .entry)) at (countsText c) (now (buf .exit)) r ⌝ }
+{
+    let p = print_field(buf, at, c.available);
+    let q = print_field(buf, p, c.stock);
+    let r = print_field(buf, q, bit(c.closed));
+    print_field(buf, r, c.queued)
+}
+
+fn print_answer(buf: &mut [u8], at: usize, a: Answer) -> usize
+    requires { ⌜ at + 7 ≤ length (now buf) ⌝ }
+    ensures { λ r. ⌜ Printed 7 (now (buf .entry)) at (answerText (answered a)) (now (buf .exit)) r ⌝ }
+{
+    match a {
+        Answer::Done => text::put(buf, at, b"done"),
+        Answer::Granted => text::put(buf, at, b"granted"),
+        Answer::Pending => text::put(buf, at, b"pending"),
+        Answer::Closed => text::put(buf, at, b"closed"),
+        Answer::NoneLeft => text::put(buf, at, b"none"),
+        Answer::Made(x) => {
+            let p = text::put(buf, at, b"s");
+            print_small(buf, p, x.0)
+        }
+        Answer::Refused(n) => {
+            let p = text::put(buf, at, b"r");
+            print_small(buf, p, n)
+        }
+    }
+}
+
+fn print_taker(buf: &mut [u8], at: usize, t: Taker) -> usize
+    requires { ⌜ at + 3 ≤ length (now buf) ⌝ }
+    ensures { λ r. ⌜ Printed 3 (now (buf .entry)) at (takerText t) (now (buf .exit)) r ⌝ }
+{
+    match t {
+        Taker::BySlot(x) => print_small(buf, at, x.0),
+        Taker::ByTry => text::put(buf, at, b"t"),
+    }
+}
+
+fn print_next(buf: &mut [u8], at: usize, t: Taker) -> usize
+    requires { ⌜ at + 4 ≤ length (now buf) ⌝ }
+    ensures { λ r. ⌜ Printed 4 (now (buf .entry)) at (comma ∷ takerText t) (now (buf .exit)) r ⌝ }
+{
+    let p = text::put(buf, at, b",");
+    print_taker(buf, p, t)
+}
+
+// The takers of the first n grants but the very first, a comma before each.
+fn print_rest(buf: &mut [u8], at: usize, items: [Grant; 32], n: usize) -> usize
+    requires { ⌜ (0 < n) × (n ≤ slotCount) × (at + 124 ≤ length (now buf)) ⌝ }
+    ensures { λ r. ⌜ Printed 124 (now (buf .entry)) at (restText (take n items)) (now (buf .exit)) r ⌝ }
+{
+    let mut p = at;
+    let mut i: usize = 1;
+    while i < n {
+        let g = items[i];
+        let t = g.taker;
+        p = print_next(buf, p, t);
+        i += 1;
+    }
+    p
+}
+
+// The takers of the first n grants, joined by commas.
+fn print_takers(buf: &mut [u8], at: usize, items: [Grant; 32], n: usize) -> usize
+    requires { ⌜ (0 < n) × (n ≤ slotCount) × (at + 127 ≤ length (now buf)) ⌝ }
+    ensures { λ r. ⌜ Printed 127 (now (buf .entry)) at (takersText (take n items)) (now (buf .exit)) r ⌝ }
+{
+    let g = items[0];
+    let t = g.taker;
+    let p = print_taker(buf, at, t);
+    print_rest(buf, p, items, n)
+}
+
+fn print_grants(buf: &mut [u8], at: usize, g: Grants) -> usize
+    requires { ⌜ (g .len ≤ slotCount) × (at + 127 ≤ length (now buf)) ⌝ }
+    ensures { λ r. ⌜ Printed 127 (now (buf .entry)) at (grantsText (grantsOf g)) (now (buf .exit)) r ⌝ }
+{
+    let n = g.len;
+    if n == 0 {
+        return text::put(buf, at, b"-");
+    }
+    let items = g.items;
+    print_takers(buf, at, items, n)
+}
+
+// The whole line, which takes at most 180 bytes.
+pub fn print_line(buf: &mut [u8], at: usize, a: Answer, c: Counts, g: Grants) -> usize
+    requires { ⌜ (g .len ≤ slotCount) × (at + 180 ≤ length (now buf)) ⌝ }
+    ensures { λ r. ⌜ Printed 180 (now (buf .entry)) at (lineText (answered a) c (grantsOf g)) (now (buf .exit)) r ⌝ }
+{
+    let p = print_answer(buf, at, a);
+    let q = text::put(buf, p, b" ");
+    let r = print_counts(buf, q, c);
+    let s = print_grants(buf, r, g);
+    text::put(buf, s, b"\n")
+}
