@@ -1,16 +1,16 @@
 -- Rows of starting clocks: one clock filled entry by entry, and the tasks made row by row.
-use Prim.Native.Nat.{ℕ, zero, suc, _+_, _-_, _*_, _≤_, _<_}
+use Prim.Native.Nat.{ℕ, suc, _+_, _-_, _*_, _≤_, _<_}
 use native.Mathlib.Nat.{mul-le-mul-right, suc-mul}
 use native.Mathlib.Numerals.{add-one}
 use native.Mathlib.Omega.{arith}
-use mathlib.Core.Path.{_≡_, refl, sym, ap, _∙_}
+use mathlib.Core.Path.{_≡_, _∙_}
 use mathlib.Core.Bool.{false}
 use mathlib.Core.List.{List, [], _∷_, _++_, append-assoc}
 use lib.ListN.{length, getD, set, take, drop, replicate, length-drop}
 use lib.Seq.{take-suc, getD-drop, drop-drop, set-at, length-take-le}
 use Rattle.rules.specs.declared.TaskState.the-variants.{Runnable}
 use Rattle.rules.specs.Sizes.{width}
-use Rattle.rules.specs.Clock.{Clock, empty}
+use Rattle.rules.specs.Clock.{empty}
 use Rattle.rules.specs.Task.{Task}
 use Rattle.rules.specs.Fresh.{freshTasks}
 
