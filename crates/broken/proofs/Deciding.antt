@@ -1,25 +1,24 @@
 -- What the whole test comes to, once the counts are within their arrays: the parts, in the order in which the code looks.
 use Prim.Native.Nat.{ℕ, _≤_, _<_}
 use native.Mathlib.Omega.{arith}
-use mathlib.Core.Path.{_≡_, refl, sym, ap, _∙_}
+use mathlib.Core.Path.{_≡_, refl, sym, _∙_}
 use mathlib.Core.Bool.{Bool, true, false, cond, not, _&&_, _||_}
-use mathlib.Core.List.{List, [], _∷_, map}
+use mathlib.Core.List.{List, [], _∷_}
 use mathlib.Core.Option.{Option, none, some}
 use borrow.Author.Tests.{lt-ltb, le-ltb, not-true, not-false}
 use lib.Dec.{ltb}
 use lib.ListN.{length, take, length-map, length-take}
 use Rattle.rules.specs.declared.Slot.{Slot}
 use Rattle.rules.specs.Request.{Request}
-use Rattle.rules.specs.State.{State, isSome, strict}
-use Rattle.rules.specs.Broken.{anyOf, twice, everySlot, reservedSlots, isBeyond, nonEmpty, broken}
-use Rattle.permits.specs.Broken.{headBeyond, badBatches, brokenPermits}
-use Rattle.task.specs.View.{taskOf, tasksOf}
+use Rattle.rules.specs.State.{isSome, strict}
+use Rattle.rules.specs.Broken.{anyOf, twice, everySlot, reservedSlots, isBeyond, nonEmpty}
+use Rattle.permits.specs.Broken.{headBeyond, brokenPermits}
+use Rattle.task.specs.View.{tasksOf}
 use Rattle.waiters.specs.View.{waitersOf, reservationOf}
 use Rattle.request.specs.View.{slotsOf}
 use Rattle.state.specs.declared.BatchSemaphore.{BatchSemaphore}
 use Rattle.state.specs.View.{view}
-use Rattle.rules.proofs.Bools.{or-left}
-use Rattle.broken.specs.Parts.{unfit, misfit, misreserved, brokenWaiting, brokenParts}
+use Rattle.broken.specs.Parts.{unfit, misfit, misreserved, brokenWaiting}
 use Rattle.broken.specs.Broken.{isBroken}
 use Rattle.broken.proofs.Grouping.{grouping}
 
@@ -61,9 +60,20 @@ is-made : (b : Bool) (x : Slot) → isSome (cond b (some x) none) ≡ b
 is-made true x = refl
 is-made false x = refl
 
-or-assoc : (a b c d e : Bool) → a || (((b || c) || d) || e) ≡ (((a || b) || c) || d) || e
-or-assoc true b c d e = refl
-or-assoc false b c d e = refl
+-- each of five parts in turn, however they are bracketed
+in-turn : (a b c d e : Bool) → a || (((b || c) || d) || e) ≡ (a || b) || (c || (d || e))
+in-turn true b c d e = refl
+in-turn false true c d e = refl
+in-turn false false true d e = refl
+in-turn false false false d e = refl
+
+-- a part that says yes decides, and one that says no leaves the rest to decide
+module _ (x part rest b : Bool) (e : x ≡ part || rest) (f : b ≡ part) where
+  pub says-yes : b ≡ true → true ≡ x
+  says-yes h = sym (e ∙ rw (← f, h))
+
+  pub says-no : b ≡ false → x ≡ rest
+  says-no h = e ∙ rw (← f, h)
 
 module _ (s : BatchSemaphore) where
   pub past-tasks : 16 < s .tasks .count → true ≡ isBroken s
@@ -74,15 +84,17 @@ module _ (s : BatchSemaphore) where
   unfolding isBroken
   past-queue t h = rw (le-ltb 16 (s .tasks .count) t, lt-ltb 32 (s .waiters .len) h)
 
-  -- the answer of the whole test, from the answers of its parts
-  abbrev pub decision : Bool
-  decision =
-      ((brokenPermits (s .permits)
-      || brokenWaiting (length (tasksOf (s .tasks))) (slotsOf (s .requests)) (waitersOf (s .waiters)) (strict (view s)))
-      || anyOf (misreserved (length (tasksOf (s .tasks))) (slotsOf (s .requests))) (reservedSlots (reservationOf (s .reservation))))
-      || (s .closed && (ltb 0 (length (waitersOf (s .waiters))) || s .reservation .made))
+  -- what the queue and the slots, the reservation, and whether it is closed have to say
+  abbrev pub waiting : Bool
+  waiting = brokenWaiting (length (tasksOf (s .tasks))) (slotsOf (s .requests)) (waitersOf (s .waiters)) (strict (view s))
 
-  pub decided : s .tasks .count ≤ 16 → s .waiters .len ≤ 32 → isBroken s ≡ decision
+  abbrev pub reserving : Bool
+  reserving = anyOf (misreserved (length (tasksOf (s .tasks))) (slotsOf (s .requests))) (reservedSlots (reservationOf (s .reservation)))
+
+  abbrev pub closing : Bool
+  closing = s .closed && (ltb 0 (length (waitersOf (s .waiters))) || s .reservation .made)
+
+  pub decided : s .tasks .count ≤ 16 → s .waiters .len ≤ 32 → isBroken s ≡ brokenPermits (s .permits) || (waiting || (reserving || closing))
   unfolding isBroken brokenPermits waitersOf
   decided t q =
       rw (
@@ -92,30 +104,4 @@ module _ (s : BatchSemaphore) where
         some-queued (take (s .waiters .len) (s .waiters .slots)),
         is-made (s .reservation .made) (s .reservation .slot),
       )
-      (or-assoc (headBeyond (s .permits)) _ _ _ _)
-
--- each answer of the code, from the answers of the parts that led to it
-module _ (s : BatchSemaphore) (t : s .tasks .count ≤ 16) (q : s .waiters .len ≤ 32) (p : Bool) (ep : p ≡ brokenPermits (s .permits)) where
-  pub permits-say : p ≡ true → true ≡ isBroken s
-  permits-say h = sym (decided s t q ∙ rw (← ep, h))
-
-  module _
-      (hp : p ≡ false) (n : ℕ) (en : n ≡ length (tasksOf (s .tasks))) (f : Bool) (ef : f ≡ strict (view s)) (w : Bool)
-      (ew : w ≡ brokenWaiting n (slotsOf (s .requests)) (waitersOf (s .waiters)) f) where
-    waits : brokenWaiting (length (tasksOf (s .tasks))) (slotsOf (s .requests)) (waitersOf (s .waiters)) (strict (view s)) ≡ w
-    waits = rw (← en, ← ef) (sym ew)
-
-    pub waiting-says : w ≡ true → true ≡ isBroken s
-    waiting-says h = sym (decided s t q ∙ rw (← ep, hp, waits, h))
-
-    module _
-        (hw : w ≡ false) (r : Bool)
-        (er : r ≡ anyOf (misreserved n (slotsOf (s .requests))) (reservedSlots (reservationOf (s .reservation)))) where
-      reserves : anyOf (misreserved (length (tasksOf (s .tasks))) (slotsOf (s .requests))) (reservedSlots (reservationOf (s .reservation))) ≡ r
-      reserves = rw (← en) (sym er)
-
-      pub reservation-says : r ≡ true → true ≡ isBroken s
-      reservation-says h = sym (decided s t q ∙ rw (← ep, hp, waits, hw, reserves, h))
-
-      pub closed-says : r ≡ false → (k : ℕ) → k ≡ length (waitersOf (s .waiters)) → (x : Bool) → x ≡ s .closed && (ltb 0 k || s .reservation .made) → x ≡ isBroken s
-      closed-says h k ek x ex = ex ∙ sym (decided s t q ∙ rw (← ep, hp, waits, hw, reserves, h, ← ek))
+      (in-turn (headBeyond (s .permits)) _ _ _ _)

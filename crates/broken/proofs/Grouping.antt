@@ -1,12 +1,10 @@
 -- Row 14's clauses, grouped as the code looks at them, say the same as in the document's order.
-use Prim.Native.Nat.{ℕ, _≤_, _<_}
-use native.Mathlib.Omega.{arith}
-use mathlib.Core.Path.{_≡_, refl, sym, ap, _∙_}
-use mathlib.Core.Bool.{Bool, true, false, cond, not, _&&_, _||_, Bool·beq}
+use Prim.Native.Nat.{_≤_}
+use mathlib.Core.Path.{_≡_, refl, sym, _∙_}
+use mathlib.Core.Bool.{Bool, true, false, not, _&&_, _||_, Bool·beq}
 use mathlib.Core.List.{List, [], _∷_}
 use mathlib.Core.Option.{Option, none, some, Option·getD}
 use borrow.Author.Tests.{le-ltb}
-use lib.Dec.{ltb, leb, eqb}
 use lib.ListN.{length, getD}
 use Rattle.rules.specs.declared.Slot.{Slot}
 use Rattle.rules.specs.Sizes.{maxTasks, slotCount}
@@ -14,11 +12,10 @@ use Rattle.rules.specs.Request.{Request, noRequest}
 use Rattle.rules.specs.State.{State, isSome, strict, inUse}
 use Rattle.rules.specs.Refusals.{badReserving}
 use Rattle.rules.specs.Broken.{anyOf, member, everySlot, reservedSlots, isBeyond, isFree, isMisMarked, cannotReserve, isMisMade, asksNothing, cannotWait, broken}
-use Rattle.rules.proofs.Bools.{by-test, clash, neither, _nor_}
+use Rattle.rules.proofs.Bools.{clash, neither, _nor_}
 use Rattle.rules.proofs.Queues.{none-of}
 use Rattle.rules.proofs.Soundness.{Clauses, clauses, unbroken}
-use Rattle.permits.specs.Broken.{badBatches}
-use Rattle.broken.specs.Parts.{unfit, misfitAs, misfit, misreserved, brokenWaiting, brokenParts}
+use Rattle.broken.specs.Parts.{misfitAs, misfit, misreserved, brokenParts}
 
 -- two tests are the same where one fails exactly if the other does
 same-test : (x y : Bool) → (x ≡ false → y ≡ false) → (y ≡ false → x ≡ false) → x ≡ y

@@ -10,7 +10,7 @@ ghost use Rattle.rules.specs.Broken.{anyOf, everySlot, reservedSlots};
 ghost use Rattle.request.specs.View.{requestOf, seen as seenAs, slotsOf};
 ghost use Rattle.waiters.specs.View.{waitersOf, reservationOf};
 ghost use Rattle.broken.specs.Parts.{cannotWaitAs, unfit, Marks, misfitAs, misfit, misreserved, brokenWaiting};
-ghost use Rattle.broken.specs.Broken.{isBroken};
+ghost use Rattle.broken.specs.Broken.{Judged};
 use request::Request;
 use request::Requests;
 use rules::Slot;
@@ -168,7 +168,7 @@ fn waiting_is_broken(waiters: Waiters, requests: Requests, tasks: usize, fair: b
 
 // Whether a struct handed in is broken.
 pub fn is_broken(s: BatchSemaphore) -> bool
-    ensures { λ b. ⌜ b ≡ isBroken s ⌝ }
+    ensures { λ b. ⌜ Judged s b ⌝ }
 {
     let tasks = s.tasks;
     let waiters = s.waiters;
