@@ -1,11 +1,18 @@
--- What holds of every start: no second answer fits its contract.
+-- What holds of every start: no second answer fits its contract, and what comes back is not broken.
 use Prim.Native.Nat.{ℕ}
 use native.Mathlib.Omega.{arith}
 use mathlib.Core.Path.{_≡_, refl, sym, _∙_}
 use mathlib.Core.Bool.{Bool, true, false, cond}
 use Rattle.rules.specs.Steps.{Outcome}
 use Rattle.rules.specs.Steps.Answer.{done, refused}
+use Rattle.rules.specs.Fresh.{Start, refuses12}
+use Rattle.rules.specs.Runs.{start}
+use Rattle.rules.specs.Sound.{Sound}
+use Rattle.rules.proofs.Bools.{by-cond}
+use Rattle.rules.proofs.KeepsSteps.{sound-fresh, sound-refused}
 use Rattle.state.specs.View.{view}
+use Rattle.broken.specs.Broken.{isBroken, Fit}
+use Rattle.broken.proofs.Unbroken.{fit-unbroken}
 use Rattle.fresh.specs.declared.Started.{Started}
 use Rattle.fresh.specs.Starting.{answerOf, Gives}
 
@@ -22,3 +29,14 @@ pub starts-once : (r q : Started) (o : Outcome) → Gives r o → Gives q o
 starts-once r q o g h =
     let a : answerOf r ≡ answerOf q = g .answer ∙ sym (h .answer) in
     (told (r .refused) (q .refused) a, a, g .view ∙ sym (h .view))
+
+-- Accepted or refused, a start gives a state that every step may count on, and that 14 does not refuse.
+sound-start : (a : Start) → Sound (start a .state)
+unfolding start
+sound-start a = by-cond (λ (o : Outcome). Sound (o .state)) (refuses12 a) (λ e. sound-refused) (λ e. sound-fresh a e)
+
+pub started-fit : (r : Started) (a : Start) → Gives r (start a) → Fit (r .state)
+started-fit r a g = record { shaped = g .shaped; sound = rw (g .view) (sound-start a) }
+
+pub started-unbroken : (r : Started) (a : Start) → Gives r (start a) → isBroken (r .state) ≡ false
+started-unbroken r a g = fit-unbroken (r .state) (started-fit r a g)
