@@ -1,3 +1,4 @@
 pub mod Turns
 pub mod Rousing
 pub mod Parts
+pub mod Whole

@@ -1,17 +1,23 @@
 -- One request's task: each answer of the code, from the tests that led to it.
 use Prim.Native.Nat.{ℕ, _≤_, _<_}
 use mathlib.Core.Path.{_≡_, refl, sym, ap, _∙_}
-use mathlib.Core.Bool.{Bool, true, false, cond}
+use mathlib.Core.Bool.{Bool, true, false, cond, not}
 use mathlib.Core.List.{List}
-use borrow.Author.Tests.{le-leb, lt-leb}
+use mathlib.Core.Option.{Option, none, some}
+use borrow.Author.Tests.{le-leb, lt-leb, not-true, not-false}
 use lib.Dec.{leb}
 use lib.ListN.{getD, set}
 use Rattle.rules.specs.declared.TaskId.{TaskId}
+use Rattle.rules.specs.declared.Slot.{Slot}
 use Rattle.rules.specs.Task.{Task, noTask, blocked, unblocked, wakened}
 use Rattle.rules.specs.Request.{Request}
 use Rattle.task.specs.declared.Tasks.{Tasks}
 use Rattle.task.specs.View.{tasksOf, Shows}
-use Rattle.waking.specs.Parts.{stale, awake, wokenIfLive, wokenIfLeast}
+use Rattle.waiters.specs.declared.Reservation.{Reservation}
+use Rattle.waiters.specs.View.{reservationOf}
+use Rattle.request.specs.declared.Request.{Request as RequestRead}
+use Rattle.request.specs.View.{requestOf, Stands}
+use Rattle.waking.specs.Parts.{stale, awake, wokenIfLive, wokenIfLeast, wokenIfAsked, forEach, standing, wokenBy}
 
 -- the same tasks as shown otherwise
 pub shown : (q : Tasks) (n : ℕ) (ts us : List Task) → Shows q n ts → ts ≡ us → Shows q n us
@@ -38,3 +44,36 @@ module _ (n : ℕ) (r : Request) (ts : List Task) where
 
   pub enough : r .ask .least ≤ n → wokenIfLive r ts ≡ wokenIfLeast n r ts
   enough h = rw (le-leb (r .ask .least) n h)
+
+  pub ask-too-large : n < r .ask .asked → ts ≡ wokenIfAsked n r ts
+  ask-too-large h = rw (lt-leb (r .ask .asked) n h)
+
+  pub ask-fits : r .ask .asked ≤ n → awake (r .task) ts ≡ wokenIfAsked n r ts
+  ask-fits h = rw (le-leb (r .ask .asked) n h)
+
+-- The reservation, by whether one was made and, if so, by its request.
+module _ (rs : List (Option Request)) (ts : List Task) (v : Reservation) where
+  pub none-made : not (v .made) ≡ true → reservationOf v ≡ standing rs ts (reservationOf v)
+  none-made m = rw (not-true (v .made) m)
+
+  module _ (m : not (v .made) ≡ false) (r : RequestRead) (s : Stands r (getD rs (v .slot .0) none)) (b : Bool) (e : b ≡ stale (requestOf r) ts) where
+    made : standing rs ts (reservationOf v) ≡ cond b none (some (v .slot))
+    made = rw (not-false (v .made) m, ← s .view, ← e)
+
+    pub made-stale : (w : Reservation) → reservationOf w ≡ none → b ≡ true → reservationOf w ≡ standing rs ts (reservationOf v)
+    made-stale w n h = n ∙ sym (made ∙ rw h)
+
+    pub made-live : b ≡ false → reservationOf v ≡ standing rs ts (reservationOf v)
+    made-live h =
+        let f : reservationOf v ≡ some (v .slot) = rw (not-false (v .made) m) in
+        let g : standing rs ts (reservationOf v) ≡ some (v .slot) = made ∙ rw h in
+        f ∙ sym g
+
+-- While one stands its task is woken, else the queue's.
+module _ (n : ℕ) (rs : List (Option Request)) (q : List Slot) (ts : List Task) (v : Reservation) where
+  pub holder-only : v .made ≡ true → (r : RequestRead) → Stands r (getD rs (v .slot .0) none)
+      → wokenIfAsked n (requestOf r) ts ≡ wokenBy (reservationOf v) n rs q ts
+  holder-only m r s = rw (m, s .view)
+
+  pub queue-races : v .made ≡ false → forEach (wokenIfLeast n) rs q ts ≡ wokenBy (reservationOf v) n rs q ts
+  queue-races m = rw m

@@ -1,17 +1,21 @@
--- A queue gone through a slot a turn.
+-- A queue gone through a slot a turn: what is left from place i on comes to the whole.
 use Prim.Native.Nat.{ℕ, _+_, _≤_, _<_}
 use native.Mathlib.Numerals.{add-one}
 use native.Mathlib.Omega.{arith}
 use mathlib.Core.Path.{_≡_, refl, ap, _∙_}
 use mathlib.Core.List.{List, [], _∷_}
-use mathlib.Core.Option.{Option}
+use mathlib.Core.Option.{Option, none}
 use lib.ListN.{length, getD, drop, drop-of-length-le}
 use lib.Seq.{drop-cons}
 use Rattle.rules.specs.declared.Slot.{Slot}
 use Rattle.rules.specs.Task.{Task}
-use Rattle.rules.specs.Request.{Request}
+use Rattle.rules.specs.Request.{Request as RequestRule}
+use Rattle.task.specs.declared.Tasks.{Tasks}
+use Rattle.task.specs.View.{tasksOf, Shows}
 use Rattle.waiters.specs.View.{slot0}
-use Rattle.waking.specs.Parts.{requestIn, inTurn}
+use Rattle.request.specs.declared.Request.{Request}
+use Rattle.request.specs.View.{requestOf, Stands}
+use Rattle.waking.specs.Parts.{requestIn, inTurn, forEach}
 
 -- after i turns of len, with a in hand: what is left to do comes to `all`
 pub record Going {A : Type 0} (f : Slot → A → A) (q : List Slot) (all : A) (len i : ℕ) (a : A) : Type 0 where
@@ -36,7 +40,23 @@ module _ {A : Type 0} (f : Slot → A → A) (q : List Slot) where
         let l : length q ≤ i = omega (arith, g .long) in
         rw (drop-of-length-le q {i = i} l) at (g .rest)
 
--- the turn of the slot at i, by the request that stands there
-pub its-turn : {A : Type 0} (g : Request → A → A) (rs : List (Option Request)) (q : List Slot) (i : ℕ) (x : Slot) (r : Request) (a b : A)
-    → x ≡ getD q i slot0 → r ≡ requestIn rs x → b ≡ g r a → b ≡ g (requestIn rs (getD q i slot0)) a
-its-turn g rs q i x r a b e f h = h ∙ ap (λ (p : Request). g p a) (f ∙ ap (requestIn rs) e)
+-- the same for tasks, as they were first and as they are after i turns: g is what is done to them for a request
+pub record Along (g : RequestRule → List Task → List Task) (rs : List (Option RequestRule)) (q : List Slot) (first : Tasks) (len i : ℕ) (now : Tasks) : Type 0 where
+  pub count : now .count ≡ first .count
+  pub going : Going (λ x us. g (requestIn rs x) us) q (forEach g rs q (tasksOf first)) len i (tasksOf now)
+
+module _ (g : RequestRule → List Task → List Task) (rs : List (Option RequestRule)) (q : List Slot) (first : Tasks) (len : ℕ) where
+  pub along-start : length q ≡ len → Along g rs q first len 0 first
+  along-start e = record { count = refl; going = going-start _ q len (tasksOf first) e }
+
+  module _ (i : ℕ) (now : Tasks) (a : Along g rs q first len i now) where
+    pub along-on : (x : Slot) (r : Request) (next : Tasks) → i < len → x ≡ getD q i slot0 → Stands r (getD rs (x .0) none)
+        → Shows next (now .count) (g (requestOf r) (tasksOf now)) → Along g rs q first len (i + 1) next
+    along-on x r next h e s k =
+        record {
+          count = k .count ∙ a .count;
+          going = going-on _ q _ len i _ (a .going) (tasksOf next) h (k .view ∙ ap (λ (p : RequestRule). g p (tasksOf now)) (s .view ∙ ap (requestIn rs) e));
+        }
+
+    pub along-done : len ≤ i → Shows now (first .count) (forEach g rs q (tasksOf first))
+    along-done h = record { count = a .count; view = going-done _ q _ len i _ (a .going) h }
