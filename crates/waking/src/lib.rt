@@ -12,7 +12,7 @@ ghost use Rattle.task.specs.View.{tasksOf, Shows as ShowsTasks};
 ghost use Rattle.waiters.specs.View.{waitersOf, reservationOf};
 ghost use Rattle.request.specs.View.{requestOf, slotsOf};
 ghost use Rattle.state.specs.View.{view, Shaped, Shows};
-ghost use Rattle.waking.specs.Parts.{stale, awake, wokenIfLive, wokenIfLeast, wokenIfAsked, reblocked, forEach, unqueued, standing, wokenBy, wokenLast};
+ghost use Rattle.waking.specs.Parts.{stale, awake, halted, wokenIfLive, wokenIfLeast, wokenIfAsked, reblocked, forEach, unqueued, standing, wokenBy, wokenLast};
 use request::Request;
 use request::Requests;
 use rules::TaskId;
@@ -37,6 +37,16 @@ pub fn unblock_and_wake(tasks: Tasks, t: TaskId) -> Tasks
 {
     let a = tasks.get(t);
     let b = a.unblock().wake();
+    tasks.put(t, b)
+}
+
+// The task is blocked.
+fn block(tasks: Tasks, t: TaskId) -> Tasks
+    requires { ⌜ tasks .count ≤ maxTasks ⌝ }
+    ensures { λ r. ⌜ ShowsTasks r (tasks .count) (halted t (tasksOf tasks)) ⌝ }
+{
+    let a = tasks.get(t);
+    let b = a.block();
     tasks.put(t, b)
 }
 
@@ -142,5 +152,162 @@ pub fn wake_unfair_waiters(s: BatchSemaphore) -> BatchSemaphore
     let mut out = s;
     out.reservation = reservation;
     out.tasks = woken;
+    out
+}
+
+// A queued request that cannot go on: the permits are reserved, or too few for its least.
+fn cannot_progress(r: Request, reserved: bool, stock: u32) -> bool
+    ensures { λ b. ⌜ b ≡ (reserved || ltb stock (r .ask .least)) ⌝ }
+{
+    if reserved {
+        return true;
+    }
+    stock < r.ask.least
+}
+
+// A request that cannot go on has its task blocked, unless the task is finished or the acting one.
+fn reblock(tasks: Tasks, r: Request, reserved: bool, stock: u32, me: TaskId) -> Tasks
+    requires { ⌜ tasks .count ≤ maxTasks ⌝ }
+    ensures { λ q. ⌜ ShowsTasks q (tasks .count) (reblocked reserved stock me (requestOf r) (tasksOf tasks)) ⌝ }
+{
+    if !cannot_progress(r, reserved, stock) {
+        return tasks;
+    }
+    if is_stale(tasks, r) {
+        return tasks;
+    }
+    let t = r.task;
+    if t.0 == me.0 {
+        return tasks;
+    }
+    block(tasks, t)
+}
+
+fn reblock_queue(
+    tasks: Tasks,
+    waiters: Waiters,
+    requests: Requests,
+    reserved: bool,
+    stock: u32,
+    me: TaskId,
+) -> Tasks
+    requires { ⌜ (tasks .count ≤ maxTasks) × (waiters .len ≤ slotCount) ⌝ }
+    ensures { λ r. ⌜ ShowsTasks r (tasks .count) (forEach (reblocked reserved stock me) (slotsOf requests) (waitersOf waiters) (tasksOf tasks)) ⌝ }
+{
+    let len = waiters.len;
+    let mut blocked = tasks;
+    let mut i: usize = 0;
+    while i < len {
+        let x = waiters.at(i);
+        let r = requests.get(x);
+        blocked = reblock(blocked, r, reserved, stock, me);
+        i += 1;
+    }
+    blocked
+}
+
+// On an unfair semaphore, after permits are taken: whoever was woken and cannot go on any more is blocked again.
+pub fn reblock_if_unfair(s: BatchSemaphore, me: TaskId) -> BatchSemaphore
+    requires { ⌜ Shaped s ⌝ }
+    ensures { λ r. ⌜ Shows r (reblockOf me (view s)) ⌝ }
+{
+    if s.strictly_fair() {
+        return s;
+    }
+    let tasks = s.tasks;
+    let waiters = s.waiters;
+    let requests = s.requests;
+    let blocked = reblock_queue(
+        tasks,
+        waiters,
+        requests,
+        s.reservation.made,
+        s.permits.num_available,
+        me,
+    );
+    let mut out = s;
+    out.tasks = blocked;
+    out
+}
+
+// The reservation is cleared, and who can now take the permits is woken.
+pub fn cancel_reservation(s: BatchSemaphore) -> BatchSemaphore
+    requires { ⌜ Shaped s ⌝ }
+    ensures { λ r. ⌜ Shows r (view s ▷ withReservation none ▷ wakeUnfair) ⌝ }
+{
+    let mut out = s;
+    let none = Reservation::none();
+    out.reservation = none;
+    wake_unfair_waiters(out)
+}
+
+// Every queued request's task, if unfinished, is unblocked and woken.
+fn wake_all(tasks: Tasks, waiters: Waiters, requests: Requests) -> Tasks
+    requires { ⌜ (tasks .count ≤ maxTasks) × (waiters .len ≤ slotCount) ⌝ }
+    ensures { λ r. ⌜ ShowsTasks r (tasks .count) (forEach wokenIfLive (slotsOf requests) (waitersOf waiters) (tasksOf tasks)) ⌝ }
+{
+    let len = waiters.len;
+    let mut woken = tasks;
+    let mut i: usize = 0;
+    while i < len {
+        let x = waiters.at(i);
+        let r = requests.get(x);
+        woken = wake_unless_stale(woken, r);
+        i += 1;
+    }
+    woken
+}
+
+// Every queued request is marked as not queued.
+fn unqueue_all(requests: Requests, waiters: Waiters) -> Requests
+    requires { ⌜ waiters .len ≤ slotCount ⌝ }
+    ensures { λ r. ⌜ slotsOf r ≡ unqueued (waitersOf waiters) (slotsOf requests) ⌝ }
+{
+    let len = waiters.len;
+    let mut left = requests;
+    let mut i: usize = 0;
+    while i < len {
+        let x = waiters.at(i);
+        left = left.set_queued(x, false);
+        i += 1;
+    }
+    left
+}
+
+// The task of the request that has the reservation, if one was made, is woken if unfinished.
+fn wake_last(tasks: Tasks, requests: Requests, reservation: Reservation) -> Tasks
+    requires { ⌜ tasks .count ≤ maxTasks ⌝ }
+    ensures { λ r. ⌜ ShowsTasks r (tasks .count) (wokenLast (reservationOf reservation) (slotsOf requests) (tasksOf tasks)) ⌝ }
+{
+    if !reservation.made {
+        return tasks;
+    }
+    let r = requests.get(reservation.slot);
+    wake_unless_stale(tasks, r)
+}
+
+// Nobody waits any more: the queue is emptied in order, then the reservation, and who waited is woken. Nothing if closed.
+pub fn close(s: BatchSemaphore) -> BatchSemaphore
+    requires { ⌜ Shaped s ⌝ }
+    ensures { λ r. ⌜ Shows r (closing (view s)) ⌝ }
+{
+    if s.closed {
+        return s;
+    }
+    let tasks = s.tasks;
+    let waiters = s.waiters;
+    let queued = s.requests;
+    let reservation = s.reservation;
+    let requests = unqueue_all(queued, waiters);
+    let woken = wake_all(tasks, waiters, queued);
+    let last = wake_last(woken, requests, reservation);
+    let nobody = Waiters::new();
+    let unreserved = Reservation::none();
+    let mut out = s;
+    out.closed = true;
+    out.waiters = nobody;
+    out.reservation = unreserved;
+    out.tasks = last;
+    out.requests = requests;
     out
 }

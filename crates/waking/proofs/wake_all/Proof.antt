@@ -1,0 +1,59 @@
+use Prim.Native.Nat.{_-_}
+use mathlib.Core.Path.{_≡_}
+use borrow.Author.Needs.{needs}
+use lib.ListN.{length}
+use Rattle.request.specs.View.{slotsOf}
+use Rattle.waiters.specs.View.{waitersOf}
+use Rattle.waiters.proofs.Lists.{unmap, waiters-length}
+use Rattle.waking.specs.Parts.{wokenIfLive}
+use Rattle.waking.proofs.Turns.{Along, along-start, along-on, along-done}
+use Rattle.waking.proofs.wake_all.Statement.{statement}
+use Rattle.waking.proofs.wake_all.Tie as tie
+
+abbrev Inv-loop : tie.InvT-loop
+Inv-loop waiters requests len woken₀ i₀ woken i = Along wokenIfLive (slotsOf requests) (waitersOf waiters) woken₀ len i woken
+
+abbrev μ-loop : tie.MeasureT-loop
+μ-loop waiters requests len woken₀ i₀ woken i = len - i
+
+loop-holds : tie.Need-loop-holds Inv-loop μ-loop
+loop-holds c =
+    let w = c .args .waiters in
+    let n : length (w .slots) ≡ 32 = search (needs, unmap) in
+    along-start _ _ _ _ _ (waiters-length w n (c .pre .1))
+
+at-requires : tie.Need-at-requires Inv-loop μ-loop
+at-requires c κs = search needs
+
+get-requires : tie.Need-get-requires Inv-loop μ-loop
+get-requires c κs = search needs
+
+wake-unless-stale-requires : tie.Need-wake-unless-stale-requires Inv-loop μ-loop
+wake-unless-stale-requires c κs = search needs
+
+add-i : tie.Need-add-i Inv-loop μ-loop
+add-i c = search needs
+
+loop-less : tie.Need-loop-less Inv-loop μ-loop
+loop-less c = search needs
+
+loop-again : tie.Need-loop-again Inv-loop μ-loop
+loop-again c = search (along-on, needs)
+
+returns : tie.Need-returns Inv-loop μ-loop
+returns c = search (along-done, needs)
+
+pub wake-all-spec : {M : Type 1} → statement M
+wake-all-spec =
+    tie.close
+    (tie.spec
+    Inv-loop
+    μ-loop
+    loop-holds
+    at-requires
+    get-requires
+    wake-unless-stale-requires
+    add-i
+    loop-less
+    loop-again
+    returns)
