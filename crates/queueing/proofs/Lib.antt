@@ -1,3 +1,4 @@
 pub mod Walks
 pub mod Stored
 pub mod Scanning
+pub mod Removing

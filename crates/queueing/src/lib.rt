@@ -1,24 +1,28 @@
 // The queue of a semaphore: joining it, leaving it, and the scan from its front.
 ghost use mathlib.Core.Path.{_≡_};
-ghost use mathlib.Core.Bool.{cond};
+ghost use mathlib.Core.Bool.{cond, _&&_, _||_};
 ghost use Prim.Native.Nat.{_≤_, _<_};
 ghost use lib.ListN.{length};
 ghost use Rattle.rules.specs.Sizes.{slotCount};
-ghost use Rattle.rules.specs.State.{stock as stockOf, askedAt};
+ghost use Rattle.rules.specs.State.{strict, stock as stockOf, askedAt};
 ghost use Rattle.rules.specs.Scan.{leave as leaveOf, queueBack, queueFront, verdict, grantQueued, queueGrant, scan};
+ghost use Rattle.rules.specs.Steps.{isFirst, frontBypassable, dropQueued};
 ghost use Rattle.rules.specs.Sound.{Sound};
 ghost use Rattle.task.specs.View.{tasksOf};
 ghost use Rattle.state.specs.View.{view, Shaped, Shows};
-ghost use Rattle.request.specs.View.{requestOf};
-ghost use Rattle.queueing.specs.View.{Granted, verdictAs};
+ghost use Rattle.waiters.specs.View.{waitersOf};
+ghost use Rattle.request.specs.View.{requestOf, slotsOf};
+ghost use Rattle.queueing.specs.View.{Granted, verdictAs, frontAs};
 use grants::Grants;
 use request::Request;
+use request::Requests;
 use rules::Grant;
 use rules::Slot;
 use rules::Taker;
 use rules::Verdict;
 use state::BatchSemaphore;
 use task::Tasks;
+use waiters::Waiters;
 
 // A state, and the grants made on the way to it.
 pub struct Granting {
@@ -166,4 +170,65 @@ pub fn unblock_waiters_from_front(s: BatchSemaphore) -> Granting
         }
     }
     Granting { state: now, grants }
+}
+
+// Whether the slot stands first.
+fn is_first(waiters: Waiters, x: Slot) -> bool
+    requires { ⌜ waiters .len ≤ slotCount ⌝ }
+    ensures { λ r. ⌜ r ≡ isFirst x (waitersOf waiters) ⌝ }
+{
+    if waiters.length() == 0 {
+        return false;
+    }
+    let front = waiters.at(0);
+    x.0 == front.0
+}
+
+// Whether the front request is Bypassable.
+fn front_is_bypassable(waiters: Waiters, requests: Requests) -> bool
+    requires { ⌜ waiters .len ≤ slotCount ⌝ }
+    ensures { λ r. ⌜ r ≡ frontAs (waitersOf waiters) (slotsOf requests) ⌝ }
+{
+    if waiters.length() == 0 {
+        return false;
+    }
+    let front = waiters.at(0);
+    let r = requests.get(front);
+    let ask = r.ask;
+    let kind = ask.kind;
+    taking::is_bypassable(kind)
+}
+
+// Whether a queue that one has left must be scanned: on a strictly fair semaphore, if that one was first or the front is Bypassable.
+fn must_scan(s: BatchSemaphore, first: bool) -> bool
+    requires { ⌜ Shaped s ⌝ }
+    ensures { λ r. ⌜ r ≡ (strict (view s) && (first || frontBypassable (view s .queue) (view s))) ⌝ }
+{
+    if !s.strictly_fair() {
+        return false;
+    }
+    if first {
+        return true;
+    }
+    let waiters = s.waiters;
+    let requests = s.requests;
+    front_is_bypassable(waiters, requests)
+}
+
+// A queued request goes, and those behind it may be granted.
+pub fn remove_waiter(s: BatchSemaphore, x: Slot) -> Granting
+    requires { ⌜ (Shaped s) × Sound (view s) ⌝ }
+    ensures { λ r. ⌜ Granted r (dropQueued x (view s)) ⌝ }
+{
+    let waiters = s.waiters;
+    let first = is_first(waiters, x);
+    let left = leave(s, x);
+    if must_scan(left, first) {
+        return unblock_waiters_from_front(left);
+    }
+    let grants = Grants::none();
+    Granting {
+        state: left,
+        grants,
+    }
 }
