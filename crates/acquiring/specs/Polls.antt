@@ -1,0 +1,42 @@
+-- What each decision of a poll needs, and a try's grant.
+use Prim.Native.Nat.{ℕ, _≤_, _<_}
+use mathlib.Core.Path.{_≡_}
+use mathlib.Core.Bool.{Bool, true, false}
+use mathlib.Core.List.{[], _∷_}
+use lib.ListN.{length}
+use Rattle.rules.specs.declared.TaskId.{TaskId}
+use Rattle.rules.specs.declared.Slot.{Slot}
+use Rattle.rules.specs.declared.Taker.the-variants.{ByTry}
+use Rattle.rules.specs.declared.Polling.{Polling}
+use Rattle.rules.specs.declared.Polling.the-variants.{Holds, IsClosed, Stays, QueuesBack, QueuesFront, TakesReserved, Takes, Reserves}
+use Rattle.rules.specs.Sizes.{slotCount}
+use Rattle.rules.specs.State.{State, stock, askedAt}
+use Rattle.rules.specs.Polling.{takesIn}
+use Rattle.rules.specs.Steps.Answer.{granted}
+use Rattle.taking.specs.Parts.{MayTick}
+use Rattle.grants.specs.View.{grantsOf}
+use Rattle.replies.specs.Answers.{answerOf}
+use Rattle.state.specs.declared.BatchSemaphore.{BatchSemaphore}
+use Rattle.outcomes.specs.declared.Stepped.{Stepped}
+
+-- whether the request joins the queue
+abbrev pub queuesIn : Polling → Bool
+queuesIn Holds = false
+queuesIn IsClosed = false
+queuesIn Stays = false
+queuesIn QueuesBack = true
+queuesIn QueuesFront = true
+queuesIn TakesReserved = false
+queuesIn Takes = false
+queuesIn Reserves = false
+
+-- to take: permits enough, and a tick; to queue: a place
+pub record MayDo (p : Polling) (t : TaskId) (x : Slot) (s : State) : Type 0 where
+  pub stock : takesIn p ≡ true → askedAt x s ≤ stock s
+  pub tick : takesIn p ≡ true → MayTick t s
+  pub room : queuesIn p ≡ true → length (s .queue) < slotCount
+
+pub record GrantedTry (r : Stepped) (s : BatchSemaphore) (n : ℕ) (t : TaskId) : Type 0 where
+  pub reply : answerOf (r .reply) ≡ granted
+  pub grants : grantsOf (r .grants) ≡ record { taker = ByTry; count = n; task = t } ∷ []
+  pub state : r .state ≡ s
