@@ -1,15 +1,18 @@
 -- What each decision of a poll needs, and a try's grant.
 use Prim.Native.Nat.{ℕ, _≤_, _<_}
 use mathlib.Core.Path.{_≡_}
-use mathlib.Core.Bool.{Bool, true, false}
-use mathlib.Core.List.{[], _∷_}
-use lib.ListN.{length}
+use mathlib.Core.Bool.{Bool, true, false, cond}
+use mathlib.Core.List.{List, [], _∷_}
+use mathlib.Core.Option.{Option, none, Option·getD}
+use lib.ListN.{length, getD}
 use Rattle.rules.specs.declared.TaskId.{TaskId}
 use Rattle.rules.specs.declared.Slot.{Slot}
-use Rattle.rules.specs.declared.Taker.the-variants.{ByTry}
+use Rattle.rules.specs.declared.Taker.the-variants.{BySlot, ByTry}
+use Rattle.rules.specs.declared.Grant.{Grant}
 use Rattle.rules.specs.declared.Polling.{Polling}
 use Rattle.rules.specs.declared.Polling.the-variants.{Holds, IsClosed, Stays, QueuesBack, QueuesFront, TakesReserved, Takes, Reserves}
 use Rattle.rules.specs.Sizes.{slotCount}
+use Rattle.rules.specs.Request.{Request, noRequest}
 use Rattle.rules.specs.State.{State, stock, askedAt}
 use Rattle.rules.specs.Polling.{takesIn}
 use Rattle.rules.specs.Steps.Answer.{granted}
@@ -40,3 +43,7 @@ pub record GrantedTry (r : Stepped) (s : BatchSemaphore) (n : ℕ) (t : TaskId) 
   pub reply : answerOf (r .reply) ≡ granted
   pub grants : grantsOf (r .grants) ≡ record { taker = ByTry; count = n; task = t } ∷ []
   pub state : r .state ≡ s
+
+-- the one grant of a poll that takes
+abbrev pub takenBy : Bool → TaskId → Slot → List (Option Request) → List Grant
+takenBy b t x rs = cond b (record { taker = BySlot x; count = Option·getD (getD rs (x .0) none) noRequest .ask .asked; task = t } ∷ []) []

@@ -1,24 +1,28 @@
 // Tries and polls, by what was decided: the effect of each decision.
 ghost use mathlib.Core.Path.{_≡_};
-
 ghost use mathlib.Core.Option.{none, some};
 ghost use Prim.Native.Nat.{_≤_};
 ghost use Rattle.rules.specs.declared.Direct.the-variants.{Take};
-ghost use Rattle.rules.specs.State.{stock, withReservation, _▷_};
+ghost use Rattle.rules.specs.State.{stock, withReservation, alterRequest, _▷_};
 ghost use Rattle.rules.specs.Taking.{takeAs};
 ghost use Rattle.rules.specs.Scan.{leave as leaveOf};
 ghost use Rattle.rules.specs.Waking.{wakeUnfair, reblock};
-ghost use Rattle.rules.specs.Polling.{pollWork};
-ghost use Rattle.rules.specs.Steps.{failTry, tryBy};
+ghost use Rattle.rules.specs.Polling.{polling, pollWork, takesIn, polled as polledOf, pollMark};
+ghost use Rattle.rules.specs.Steps.{failTry, tryBy, pollAnswer, poll};
 ghost use Rattle.taking.specs.Parts.{MayTick};
 ghost use Rattle.state.specs.View.{view, Shaped, Shows};
 ghost use Rattle.outcomes.specs.View.{Shown};
-ghost use Rattle.acquiring.specs.Polls.{MayDo, GrantedTry};
+ghost use Rattle.acquiring.specs.Polls.{MayDo, GrantedTry, takenBy};
+ghost use Rattle.grants.specs.View.{grantsOf};
+ghost use Rattle.replies.specs.Answers.{answerOf};
+ghost use Rattle.request.specs.View.{slotsOf};
 use grants::Grants;
 use outcomes::Stepped;
 use replies::Reply;
+use request::Requests;
 use rules::Direct;
 use rules::Grant;
+use rules::Polled;
 use rules::Polling;
 use rules::Slot;
 use rules::Taker;
@@ -126,5 +130,95 @@ fn poll_work(s: BatchSemaphore, me: TaskId, x: Slot, p: Polling) -> BatchSemapho
         Polling::TakesReserved => take_reserved(s, me, ask.asked),
         Polling::Takes => take_and_leave(s, me, x, ask.asked),
         Polling::Reserves => reserve(s, me, x),
+    }
+}
+
+// What a poll took, if it took.
+fn poll_grants(requests: Requests, me: TaskId, x: Slot, p: Polling) -> Grants
+    ensures { λ g. ⌜ grantsOf g ≡ takenBy (takesIn p) me x (slotsOf requests) ⌝ }
+{
+    if !takes_in(p) {
+        return Grants::none();
+    }
+    let r = requests.get(x);
+    let ask = r.ask;
+    let taker = Taker::BySlot(x);
+    let g = Grant {
+        taker,
+        count: ask.asked,
+        task: me,
+    };
+    Grants::one(g)
+}
+
+// Whether a poll takes.
+pub fn takes_in(p: Polling) -> bool
+    ensures { λ b. ⌜ b ≡ takesIn p ⌝ }
+{
+    match p {
+        Polling::Holds => false,
+        Polling::IsClosed => false,
+        Polling::Stays => false,
+        Polling::QueuesBack => false,
+        Polling::QueuesFront => false,
+        Polling::TakesReserved => true,
+        Polling::Takes => true,
+        Polling::Reserves => false,
+    }
+}
+
+// What a poll answers.
+pub fn polled(p: Polling) -> Polled
+    ensures { λ r. ⌜ r ≡ polledOf p ⌝ }
+{
+    match p {
+        Polling::Holds => Polled::Granted,
+        Polling::IsClosed => Polled::Closed,
+        Polling::Stays => Polled::Pending,
+        Polling::QueuesBack => Polled::Pending,
+        Polling::QueuesFront => Polled::Pending,
+        Polling::TakesReserved => Polled::Granted,
+        Polling::Takes => Polled::Granted,
+        Polling::Reserves => Polled::Pending,
+    }
+}
+
+fn poll_reply(a: Polled) -> Reply
+    ensures { λ r. ⌜ answerOf r ≡ pollAnswer a ⌝ }
+{
+    match a {
+        Polled::Granted => Reply::Granted,
+        Polled::Closed => Reply::Closed,
+        Polled::Pending => Reply::Pending,
+    }
+}
+
+// The marks of a poll.
+fn mark_polled(s: BatchSemaphore, me: TaskId, x: Slot, a: Polled) -> BatchSemaphore
+    requires { ⌜ Shaped s ⌝ }
+    ensures { λ r. ⌜ Shows r (alterRequest x (pollMark a me) (view s)) ⌝ }
+{
+    let requests = s.requests;
+    let marked = requests.mark_polled(x, a, me);
+    let mut out = s;
+    out.requests = marked;
+    out
+}
+
+// A poll, as it was decided.
+pub fn poll_by(s: BatchSemaphore, me: TaskId, x: Slot, p: Polling) -> Stepped
+    requires { ⌜ (Shaped s) × (p ≡ polling x (view s)) × MayDo p me x (view s) ⌝ }
+    ensures { λ r. ⌜ Shown r (poll me x (view s)) ⌝ }
+{
+    let requests = s.requests;
+    let grants = poll_grants(requests, me, x, p);
+    let worked = poll_work(s, me, x, p);
+    let a = polled(p);
+    let reply = poll_reply(a);
+    let state = mark_polled(worked, me, x, a);
+    Stepped {
+        reply,
+        grants,
+        state,
     }
 }

@@ -1,27 +1,29 @@
+use Prim.Native.Nat.{_<_}
+use mathlib.Core.Path.{sym, subst}
+use lib.ListN.{getD}
+use Rattle.rules.specs.Sizes.{largest}
+use Rattle.rules.specs.Task.{Task}
+use Rattle.taking.proofs.Taken.{within-width}
+use Rattle.acquiring.proofs.Put.{failed}
 use borrow.Author.Needs.{needs}
 use Rattle.acquiring.proofs.fail_try.Statement.{statement}
 use Rattle.acquiring.proofs.fail_try.Tie as tie
-use Rattle.acquiring.proofs.fail_try.Reads as reads
-use Rattle.acquiring.proofs.fail_try.Lts as lts
-use Rattle.task.proofs.Task.update_clock.Reads as update-clock-reads
-use Rattle.task.proofs.Tasks.get.Reads as get-reads
-use Rattle.task.proofs.Tasks.put.Reads as put-reads
 
--- src/lib.rt:35:9
 get-requires : tie.Need-get-requires
 get-requires c κs = search needs
 
--- src/lib.rt:38:9
 update-clock-requires : tie.Need-update-clock-requires
-update-clock-requires c κs = ?
+update-clock-requires c κs =
+    let a = c .before .before .before .before in (
+      within-width (a .args .s) (a .args .me) (a .pre .0) (a .pre .1),
+      subst (λ (t : Task). getD (t .clock) (a .args .me .0) 0 < largest) (sym (c .before .before .get .ensures)) (a .pre .1 .entry),
+    )
 
--- src/lib.rt:39:9
 put-requires : tie.Need-put-requires
 put-requires c κs = search needs
 
--- src/lib.rt:30:1
 returns : tie.Need-returns
-returns c = ?
+returns c = failed (c .before .before .before .before .before .before .args .s) (c .before .before .before .before .before .before .args .me) _ _ _ (c .before .before .before .before .before .before .pre .0) (c .before .before .before .before .get .ensures) (c .before .update-clock .ensures) (c .put .ensures)
 
 pub fail-try-spec : {M : Type 1} → statement M
 fail-try-spec = tie.close (tie.spec get-requires update-clock-requires put-requires returns)
