@@ -13,7 +13,7 @@ use Rattle.rules.specs.State.{isSome}
 use Rattle.rules.specs.Refusals.{badReserving}
 use Rattle.rules.specs.Broken.{anyOf, reservedSlots}
 use Rattle.request.specs.declared.Request.{Request}
-use Rattle.request.proofs.Slots.{map-getD}
+use Rattle.rules.proofs.Places.{map-getD}
 use Rattle.waiters.specs.declared.Reservation.{Reservation}
 use Rattle.waiters.specs.View.{reservationOf}
 use Rattle.request.specs.View.{requestOf, seen, Stands}

@@ -2,14 +2,15 @@
 use Prim.Native.Nat.{ℕ, _≤_, _<_}
 use native.Mathlib.Decide.{decLt}
 use native.Mathlib.Omega.{arith}
-use mathlib.Core.Path.{_≡_, refl, sym, _∙_}
-use mathlib.Core.Bool.{Bool, true, false, not, _||_, true≢false, Bool·not-not}
+use mathlib.Core.Path.{_≡_, sym, _∙_}
+use mathlib.Core.Bool.{Bool, true, false, not, _||_, Bool·not-not}
 use borrow.Author.Tests.{lt-ltb, le-ltb, le-leb, lt-leb, leb-false, ltb-false}
 use lib.Dec.{leb, ltb, eqb}
 use lib.ListN.{length}
 use Rattle.rules.specs.Sizes.{batchCount}
 use Rattle.rules.specs.Refusals.{full}
 use Rattle.rules.specs.Broken.{anyOf, standingBatches, isEmptyBatch, total, differs}
+use Rattle.rules.proofs.Bools.{neither}
 use Rattle.permits.specs.declared.PermitsAvailable.{PermitsAvailable}
 use Rattle.permits.specs.View.{batchesOf, setUpIf, permitsOf, WellFormed}
 use Rattle.permits.specs.Broken.{headBeyond, badBatches, brokenPermits}
@@ -47,10 +48,6 @@ module _ (p : PermitsAvailable) where
     pub not-adding-up : (b : Bool) → p .«permit_clocks» .head < batchCount → p .«permit_clocks» .count ≤ batchCount → b ≡ not (anyOf isEmptyBatch (batchesOf (p .«permit_clocks»)) || not (eqb (total (batchesOf (p .«permit_clocks»))) (p .«num_available»))) → not b ≡ brokenPermits p
     unfolding brokenPermits setUpIf
     not-adding-up b h n e = rw (e, Bool·not-not, r, lt-leb batchCount (p .«permit_clocks» .head) h, ring-length, le-ltb batchCount (p .«permit_clocks» .count) n)
-
-neither : (a b : Bool) → a || b ≡ false → (a ≡ false) × (b ≡ false)
-neither false b e = (refl, e)
-neither true b e = absurd (true≢false e)
 
 -- Permits that 14 does not refuse are well-formed, and their batches are as the rules want them.
 module _ (p : PermitsAvailable) (sound : brokenPermits p ≡ false) where

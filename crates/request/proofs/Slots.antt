@@ -1,36 +1,18 @@
 -- Laws on requests in their slots: reading one, filling one, changing one.
-use Prim.Native.Nat.{ℕ, zero, suc, _+_, _<_, _≤_}
+use Prim.Native.Nat.{ℕ, suc, _+_, _<_, _≤_}
 use native.Mathlib.Numerals.{add-one}
 use native.Mathlib.Omega.{arith}
-use mathlib.Core.Path.{_≡_, refl, sym, ap, _∙_}
-use mathlib.Core.Bool.{Bool, true, false, cond, not}
-use mathlib.Core.List.{List, [], _∷_, map}
-use mathlib.Core.Option.{Option, none, some, Option·getD, Option·map}
-use lib.ListN.{length, getD, set, drop, replicate, length-map, List·getD-eq-default, drop-of-length-le}
-use lib.Seq.{set-out, drop-cons}
-use Rattle.rules.specs.Request.{Request as RequestRule, noRequest}
+use mathlib.Core.Path.{_≡_, refl, sym, _∙_}
+use mathlib.Core.Bool.{Bool, true, false, cond}
+use mathlib.Core.List.{List, _∷_, map}
+use mathlib.Core.Option.{Option, none, some, Option·map}
+use lib.ListN.{length, getD, drop, length-map, List·getD-eq-default, drop-of-length-le}
+use lib.Seq.{drop-cons}
+use Rattle.rules.specs.Request.{Request as RequestRule}
 use Rattle.rules.specs.Steps.{lowestFree}
+use Rattle.rules.proofs.Places.{map-getD}
 use Rattle.request.specs.declared.Request.{Request}
 use Rattle.request.specs.View.{requestOf, seen, Stands, Changed}
-
-module _ {A B : Type 0} (f : A → B) where
-  pub map-set : (l : List A) (i : ℕ) (a : A) → map f (set l i a) ≡ set (map f l) i (f a)
-  map-set [] i a = refl
-  map-set (x ∷ l) zero a = refl
-  map-set (x ∷ l) (suc i) a = ap (λ (t : List B). f x ∷ t) (map-set l i a)
-
-  pub map-getD : (l : List A) (i : ℕ) (d : A) (e : B) → i < length l → getD (map f l) i e ≡ f (getD l i d)
-  map-getD [] i d e h = absurd (omega arith)
-  map-getD (x ∷ l) zero d e h = refl
-  map-getD (x ∷ l) (suc i) d e h = map-getD l i d e (omega arith)
-
-  pub map-replicate : (n : ℕ) (a : A) → map f (replicate n a) ≡ replicate n (f a)
-  map-replicate zero a = refl
-  map-replicate (suc n) a = ap (λ (t : List B). f a ∷ t) (map-replicate n a)
-
--- the length of an array of structs in a parameter's field, from what owning the parameter tells
-pub unmap : {A B : Type 0} (f : A → B) (l : List A) (n : ℕ) → length (map f l) ≡ n → length l ≡ n
-unmap f l n e = sym (length-map l f) ∙ e
 
 -- ---- reading: past the slots, at one in use, at a free one
 module _ (l : List Request) (i : ℕ) where

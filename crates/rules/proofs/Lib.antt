@@ -19,6 +19,7 @@ pub mod Laws
 pub mod Naming
 pub mod Parts
 pub mod PassedOver
+pub mod Places
 pub mod Promises
 pub mod Queues
 pub mod Scripts

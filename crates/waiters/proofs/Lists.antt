@@ -1,13 +1,13 @@
 -- Laws on the slots of a queue: where one stands, which are named, and whether one is named twice.
-use Prim.Native.Nat.{ℕ, zero, suc, _+_, _<_, _≤_}
+use Prim.Native.Nat.{ℕ, suc, _+_, _<_, _≤_}
 use native.Mathlib.Numerals.{add-one}
 use native.Mathlib.Omega.{arith}
 use mathlib.Core.Path.{_≡_, refl, sym, ap, _∙_}
 use mathlib.Core.Bool.{Bool, true, false, cond, _||_}
-use mathlib.Core.List.{List, [], _∷_, _++_, map}
+use mathlib.Core.List.{List, [], _∷_, _++_}
 use borrow.Author.Tests.{eq-eqb, ne-eqb, eqb-true, eqb-false, le-leb, lt-leb}
 use lib.Dec.{eqb}
-use lib.ListN.{length, getD, set, take, drop, replicate, drop-of-length-le, take-append-drop, length-take, length-map, length-set, length-replicate, getD-replicate}
+use lib.ListN.{length, getD, set, take, drop, replicate, drop-of-length-le, take-append-drop, length-take, length-set, length-replicate, getD-replicate}
 use lib.Seq.{slice-cons, length-take-le, take-all, take-take, take-suc, getD-set-same, getD-set-other}
 use Rattle.rules.specs.declared.Slot.{Slot}
 use Rattle.rules.specs.State.{sameSlot}
@@ -17,10 +17,6 @@ use Rattle.rules.proofs.Bools.{by-test, clash, or-right}
 use Rattle.rules.proofs.Queues.{any-append, once-middle, once-snoc}
 use Rattle.waiters.specs.View.{waitersOf, indexOf, removeAt, Named}
 use Rattle.waiters.specs.declared.Waiters.{Waiters}
-
--- the length of an array of structs in a parameter's field, from what owning the parameter tells
-pub unmap : {A B : Type 0} (f : A → B) (l : List A) (n : ℕ) → length (map f l) ≡ n → length l ≡ n
-unmap f l n e = sym (length-map l f) ∙ e
 
 -- ---- where a slot stands
 

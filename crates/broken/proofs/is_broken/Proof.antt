@@ -4,7 +4,7 @@ use mathlib.Core.Bool.{_||_}
 use borrow.Author.Needs.{needs}
 use lib.ListN.{length}
 use Rattle.permits.specs.Broken.{brokenPermits}
-use Rattle.request.proofs.Slots.{unmap}
+use Rattle.rules.proofs.Places.{unmap}
 use Rattle.broken.specs.Broken.{isBroken}
 use Rattle.broken.proofs.Deciding.{says-yes, says-no, past-tasks, past-queue, waiting, reserving, closing, decided}
 use Rattle.broken.proofs.Unbroken.{judged}

@@ -6,7 +6,8 @@ use lib.ListN.{length, getD, drop}
 use Rattle.rules.specs.Broken.{anyOf}
 use Rattle.request.specs.View.{slotsOf}
 use Rattle.waiters.specs.View.{waitersOf, slot0}
-use Rattle.waiters.proofs.Lists.{unmap, waiters-length}
+use Rattle.rules.proofs.Places.{unmap}
+use Rattle.waiters.proofs.Lists.{waiters-length}
 use Rattle.broken.specs.Parts.{unfit}
 use Rattle.broken.proofs.Looking.{hit, missed, none-left}
 use Rattle.broken.proofs.queue_is_broken.Statement.{statement}

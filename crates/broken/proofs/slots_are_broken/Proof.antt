@@ -7,7 +7,7 @@ use lib.ListN.{length}
 use Rattle.rules.specs.declared.Slot.{Slot}
 use Rattle.rules.specs.Broken.{anyOf, slotsFrom, everySlot}
 use Rattle.request.specs.View.{slotsOf}
-use Rattle.request.proofs.Slots.{unmap}
+use Rattle.rules.proofs.Places.{unmap}
 use Rattle.broken.specs.Parts.{Marks, misfit}
 use Rattle.broken.proofs.Judging.{misfit-there}
 use Rattle.broken.proofs.Looking.{slot-hit, slot-missed, no-slot-left}

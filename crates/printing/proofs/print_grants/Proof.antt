@@ -1,7 +1,7 @@
 -- `printing::print_grants`: a dash, or the takers.
 use borrow.Author.Needs.{needs}
 use Rattle.grants.specs.View.{grantsOf}
-use Rattle.grants.proofs.Arrays.{unmap}
+use Rattle.rules.proofs.Places.{unmap}
 use Rattle.printing.proofs.Takers.{none-granted, some-granted}
 use Rattle.printing.proofs.print_grants.Statement.{statement}
 use Rattle.printing.proofs.print_grants.Tie as tie

@@ -4,7 +4,7 @@ use mathlib.Core.Path.{_≡_, refl}
 use borrow.Author.Needs.{needs}
 use native.Mathlib.Omega.{arith}
 use lib.ListN.{length, take}
-use Rattle.grants.proofs.Arrays.{unmap}
+use Rattle.rules.proofs.Places.{unmap}
 use Rattle.printing.specs.Printed.{Printed, restText}
 use Rattle.printing.proofs.Takers.{rest-starts, rest-goes-on, rest-ends}
 use Rattle.printing.proofs.print_rest.Statement.{statement}

@@ -1,6 +1,6 @@
 -- `printing::print_takers`: the first taker, then the rest.
 use borrow.Author.Needs.{needs}
-use Rattle.grants.proofs.Arrays.{unmap}
+use Rattle.rules.proofs.Places.{unmap}
 use Rattle.printing.proofs.Takers.{takers-printed}
 use Rattle.printing.proofs.print_takers.Statement.{statement}
 use Rattle.printing.proofs.print_takers.Tie as tie

@@ -8,7 +8,8 @@ use lib.ListN.{length, getD, drop}
 use Rattle.rules.specs.declared.Slot.{Slot}
 use Rattle.request.specs.View.{slotsOf, Stands}
 use Rattle.waiters.specs.View.{waitersOf, slot0}
-use Rattle.waiters.proofs.Lists.{unmap, waiters-length}
+use Rattle.rules.proofs.Places.{unmap}
+use Rattle.waiters.proofs.Lists.{waiters-length}
 use Rattle.taking.specs.Parts.{everyBypassable}
 use Rattle.taking.proofs.Looking.{one-blocks, one-passes, all-pass}
 use Rattle.taking.proofs.all_bypassable.Statement.{statement}

@@ -7,7 +7,8 @@ use Rattle.rules.specs.declared.Slot.{Slot}
 use Rattle.rules.specs.Request.{queuedAs}
 use Rattle.request.specs.View.{slotsOf, altered}
 use Rattle.waiters.specs.View.{waitersOf}
-use Rattle.waiters.proofs.Lists.{unmap, waiters-length}
+use Rattle.rules.proofs.Places.{unmap}
+use Rattle.waiters.proofs.Lists.{waiters-length}
 use Rattle.waking.specs.Parts.{unqueued}
 use Rattle.waking.proofs.Turns.{Going, going-start, going-on, going-done}
 use Rattle.waking.proofs.unqueue_all.Statement.{statement}

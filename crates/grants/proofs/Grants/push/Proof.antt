@@ -3,7 +3,7 @@ use native.Mathlib.Omega.{arith}
 use native.Mathlib.Numerals.{add-one}
 use lib.ListN.{length}
 use lib.Seq.{take-suc-set}
-use Rattle.grants.proofs.Arrays.{unmap}
+use Rattle.rules.proofs.Places.{unmap}
 use Rattle.grants.specs.View.{grantsOf}
 use borrow.Author.Needs.{needs}
 use Rattle.grants.proofs.Grants.push.Statement.{statement}

@@ -2,7 +2,8 @@ use mathlib.Core.Path.{_≡_}
 use native.Mathlib.Omega.{arith}
 use lib.ListN.{length}
 use Rattle.request.specs.View.{slotsOf}
-use Rattle.request.proofs.Slots.{unmap, reads-past, reads-used, reads-free}
+use Rattle.rules.proofs.Places.{unmap}
+use Rattle.request.proofs.Slots.{reads-past, reads-used, reads-free}
 use borrow.Author.Needs.{needs}
 use Rattle.request.proofs.Requests.get.Statement.{statement}
 use Rattle.request.proofs.Requests.get.Tie as tie

@@ -6,7 +6,8 @@ use borrow.Author.Tests.{not-true, not-false}
 use lib.ListN.{length, drop}
 use Rattle.rules.specs.Steps.{lowestFree}
 use Rattle.request.specs.View.{slotsOf}
-use Rattle.request.proofs.Slots.{unmap, free-here, used-here, none-free}
+use Rattle.rules.proofs.Places.{unmap}
+use Rattle.request.proofs.Slots.{free-here, used-here, none-free}
 use Rattle.request.proofs.Requests.lowest_free.Statement.{statement}
 use Rattle.request.proofs.Requests.lowest_free.Tie as tie
 

@@ -4,7 +4,7 @@ use native.Mathlib.Omega.{arith}
 use lib.ListN.{length, length-map}
 use lib.Seq.{set-out}
 use Rattle.request.specs.View.{seen, slotsOf}
-use Rattle.request.proofs.Slots.{unmap, map-set}
+use Rattle.rules.proofs.Places.{unmap, map-set}
 use borrow.Author.Needs.{needs}
 use Rattle.request.proofs.Requests.put.Statement.{statement}
 use Rattle.request.proofs.Requests.put.Tie as tie

@@ -1,7 +1,7 @@
 -- A number below the count is a place in use; past it nothing is stored.
 use borrow.Author.Needs.{needs}
 use Rattle.task.specs.View.{taskOf}
-use Rattle.task.proofs.Places.{store-past, store-at}
+use Rattle.rules.proofs.Places.{store-past, store-at}
 use Rattle.task.proofs.Tasks.put.Statement.{statement}
 use Rattle.task.proofs.Tasks.put.Tie as tie
 

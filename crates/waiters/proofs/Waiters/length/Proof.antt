@@ -1,7 +1,8 @@
 use mathlib.Core.Path.{_≡_, sym}
 use borrow.Author.Needs.{needs}
 use lib.ListN.{length}
-use Rattle.waiters.proofs.Lists.{unmap, waiters-length, waiters-past}
+use Rattle.rules.proofs.Places.{unmap}
+use Rattle.waiters.proofs.Lists.{waiters-length, waiters-past}
 use Rattle.waiters.proofs.Waiters.length.Statement.{statement}
 use Rattle.waiters.proofs.Waiters.length.Tie as tie
 

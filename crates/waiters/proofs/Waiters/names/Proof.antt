@@ -4,7 +4,8 @@ use native.Mathlib.Omega.{arith}
 use borrow.Author.Needs.{needs}
 use lib.ListN.{length}
 use Rattle.waiters.specs.View.{waitersOf, slot0}
-use Rattle.waiters.proofs.Lists.{unmap, Naming, naming-start, one-beyond, one-again, one-more, naming-done, naming-wrong}
+use Rattle.rules.proofs.Places.{unmap}
+use Rattle.waiters.proofs.Lists.{Naming, naming-start, one-beyond, one-again, one-more, naming-done, naming-wrong}
 use Rattle.waiters.proofs.Waiters.names.Statement.{statement}
 use Rattle.waiters.proofs.Waiters.names.Tie as tie
 

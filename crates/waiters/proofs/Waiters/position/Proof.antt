@@ -5,7 +5,8 @@ use native.Mathlib.Omega.{arith}
 use borrow.Author.Needs.{needs}
 use lib.ListN.{length, drop}
 use Rattle.waiters.specs.View.{waitersOf, indexOf, slot0}
-use Rattle.waiters.proofs.Lists.{unmap, found, passed, ended}
+use Rattle.rules.proofs.Places.{unmap}
+use Rattle.waiters.proofs.Lists.{found, passed, ended}
 use Rattle.waiters.proofs.Waiters.position.Statement.{statement}
 use Rattle.waiters.proofs.Waiters.position.Tie as tie
 

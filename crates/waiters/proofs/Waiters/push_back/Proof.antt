@@ -1,5 +1,6 @@
 use Prim.Native.Nat.{_<_}
-use Rattle.waiters.proofs.Lists.{unmap, waiters-room}
+use Rattle.rules.proofs.Places.{unmap}
+use Rattle.waiters.proofs.Lists.{waiters-room}
 use borrow.Author.Needs.{needs}
 use mathlib.Core.Path.{_≡_}
 use native.Mathlib.Omega.{arith}

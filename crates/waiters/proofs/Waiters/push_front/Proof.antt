@@ -1,7 +1,8 @@
 use Prim.Native.Nat.{_<_}
 use mathlib.Core.Path.{_≡_}
 use lib.ListN.{length}
-use Rattle.waiters.proofs.Lists.{unmap, waiters-room, in-front}
+use Rattle.rules.proofs.Places.{unmap}
+use Rattle.waiters.proofs.Lists.{waiters-room, in-front}
 use native.Mathlib.Omega.{arith}
 use Rattle.waiters.specs.View.{waitersOf}
 use borrow.Author.Needs.{needs}

@@ -2,7 +2,8 @@ use mathlib.Core.Path.{_≡_, sym, _∙_}
 use native.Mathlib.Omega.{arith}
 use lib.ListN.{length}
 use Rattle.waiters.specs.View.{waitersOf}
-use Rattle.waiters.proofs.Lists.{unmap, waiters-length, removed, absent}
+use Rattle.rules.proofs.Places.{unmap}
+use Rattle.waiters.proofs.Lists.{waiters-length, removed, absent}
 use borrow.Author.Needs.{needs}
 use Rattle.waiters.proofs.Waiters.remove.Statement.{statement}
 use Rattle.waiters.proofs.Waiters.remove.Tie as tie

@@ -1,29 +1,30 @@
--- The first n places of an array, each shown by a function: what a read, a store and a place more do, at any element type.
+-- Arrays seen through a function: their lengths, reads and stores; and the same of their first n places, with one place more. At any
+-- element type.
 use Prim.Native.Nat.{ℕ, zero, suc, _+_, _≤_, _<_}
-use native.Mathlib.Nat.{not-suc-le-zero, le-of-suc-le-suc}
 use native.Mathlib.Omega.{arith}
 use native.Mathlib.Numerals.{add-one}
 use mathlib.Core.Path.{_≡_, refl, sym, ap, _∙_}
 use mathlib.Core.List.{List, [], _∷_, _++_, map, map-append}
 use lib.ListN.{length, getD, set, take, length-take, length-map, List·getD-eq-default}
-use lib.Seq.{length-take-le, take-all, set-out, take-set-lt, take-suc-set}
+use lib.Seq.{length-take-le, take-all, getD-take, set-out, take-set-lt, take-suc-set}
 
 module _ {A B : Type 0} (f : A → B) where
-  -- what owning an array of structs tells of its length
-  pub unmapped : (l : List A) (w : ℕ) → length (map f l) ≡ w → length l ≡ w
-  unmapped l w e = rw length-map at e
+  -- the length of an array of structs, from what owning it tells
+  pub unmap : (l : List A) (w : ℕ) → length (map f l) ≡ w → length l ≡ w
+  unmap l w e = rw length-map at e
 
-  read : (n : ℕ) (l : List A) (i : ℕ) (a : A) (b : B) → i < n → i < length l → f (getD l i a) ≡ getD (map f (take n l)) i b
-  read n [] i a b h k = absurd (not-suc-le-zero k)
-  read zero (x ∷ l) i a b h k = absurd (not-suc-le-zero h)
-  read (suc n) (x ∷ l) zero a b h k = refl
-  read (suc n) (x ∷ l) (suc i) a b h k = read n l i a b (le-of-suc-le-suc h) (le-of-suc-le-suc k)
-
-  map-set : (l : List A) (i : ℕ) (a : A) → map f (set l i a) ≡ set (map f l) i (f a)
+  pub map-set : (l : List A) (i : ℕ) (a : A) → map f (set l i a) ≡ set (map f l) i (f a)
   map-set [] i a = refl
   map-set (x ∷ l) zero a = refl
   map-set (x ∷ l) (suc i) a = ap (λ (r : List B). f x ∷ r) (map-set l i a)
 
+  -- whatever stands past the end
+  pub map-getD : (l : List A) (i : ℕ) (a : A) (b : B) → i < length l → getD (map f l) i b ≡ f (getD l i a)
+  map-getD [] i a b h = absurd (omega arith)
+  map-getD (x ∷ l) zero a b h = refl
+  map-getD (x ∷ l) (suc i) a b h = map-getD l i a b (omega arith)
+
+-- the first n places
 module _ {A B : Type 0} (f : A → B) (n : ℕ) (l : List A) where
   short : (i : ℕ) → n ≤ i → length (map f (take n l)) ≤ i
   short i h = simp (length-map, length-take) (omega arith)
@@ -34,9 +35,8 @@ module _ {A B : Type 0} (f : A → B) (n : ℕ) (l : List A) where
   pub size-past : (w : ℕ) → length l ≡ w → w < n → w ≡ length (map f (take n l))
   size-past w e h = sym (length-map (take n l) f ∙ (rw (take-all n l (omega arith)) e))
 
-  -- whatever stands past the end
   pub read-at : (i w : ℕ) (a : A) (b : B) → i < n → i < w → length l ≡ w → f (getD l i a) ≡ getD (map f (take n l)) i b
-  read-at i w a b h k e = read f n l i a b h (omega arith)
+  read-at i w a b h k e = sym (map-getD f (take n l) i a b (simp length-take (omega arith)) ∙ ap f (getD-take n l i a h))
 
   pub read-past : (i : ℕ) (b c : B) → c ≡ b → n ≤ i → c ≡ getD (map f (take n l)) i b
   read-past i b c e h = rw (e, List·getD-eq-default (map f (take n l)) b (short i h))
