@@ -62,25 +62,25 @@ fn wake_unless_stale(tasks: Tasks, r: Request) -> Tasks
 }
 
 // The same, if the stock covers the least that the request can go on with.
-fn wake_if_enough(tasks: Tasks, r: Request, stock: u32) -> Tasks
+fn wake_if_enough(tasks: Tasks, waiter: Request, stock: u32) -> Tasks
     requires { ⌜ tasks .count ≤ maxTasks ⌝ }
-    ensures { λ q. ⌜ ShowsTasks q (tasks .count) (wokenIfLeast stock (requestOf r) (tasksOf tasks)) ⌝ }
+    ensures { λ q. ⌜ ShowsTasks q (tasks .count) (wokenIfLeast stock (requestOf waiter) (tasksOf tasks)) ⌝ }
 {
-    if stock < r.ask.least {
+    if stock < waiter.ask.least {
         return tasks;
     }
-    wake_unless_stale(tasks, r)
+    wake_unless_stale(tasks, waiter)
 }
 
 // The task of the request that has the reservation is unblocked and woken, if the stock covers its ask.
-fn wake_holder(tasks: Tasks, r: Request, stock: u32) -> Tasks
+fn wake_holder(tasks: Tasks, holder: Request, stock: u32) -> Tasks
     requires { ⌜ tasks .count ≤ maxTasks ⌝ }
-    ensures { λ q. ⌜ ShowsTasks q (tasks .count) (wokenIfAsked stock (requestOf r) (tasksOf tasks)) ⌝ }
+    ensures { λ q. ⌜ ShowsTasks q (tasks .count) (wokenIfAsked stock (requestOf holder) (tasksOf tasks)) ⌝ }
 {
-    if stock < r.ask.asked {
+    if stock < holder.ask.asked {
         return tasks;
     }
-    unblock_and_wake(tasks, r.task)
+    unblock_and_wake(tasks, holder.task)
 }
 
 // Every queued request that can go on has its task, if unfinished, unblocked and woken: they race.
@@ -93,8 +93,8 @@ fn wake_queue(tasks: Tasks, waiters: Waiters, requests: Requests, stock: u32) ->
     let mut i: usize = 0;
     while i < len {
         let x = waiters.at(i);
-        let r = requests.get(x);
-        woken = wake_if_enough(woken, r, stock);
+        let waiter = requests.get(x);
+        woken = wake_if_enough(woken, waiter, stock);
         i += 1;
     }
     woken
@@ -107,8 +107,8 @@ fn drop_stale(reservation: Reservation, tasks: Tasks, requests: Requests) -> Res
     if !reservation.made {
         return reservation;
     }
-    let r = requests.get(reservation.slot);
-    if is_stale(tasks, r) {
+    let holder = requests.get(reservation.slot);
+    if is_stale(tasks, holder) {
         return Reservation::none();
     }
     reservation
@@ -126,8 +126,8 @@ fn wake_waiters(
     ensures { λ r. ⌜ ShowsTasks r (tasks .count) (wokenBy (reservationOf reservation) stock (slotsOf requests) (waitersOf waiters) (tasksOf tasks)) ⌝ }
 {
     if reservation.made {
-        let r = requests.get(reservation.slot);
-        return wake_holder(tasks, r, stock);
+        let holder = requests.get(reservation.slot);
+        return wake_holder(tasks, holder, stock);
     }
     wake_queue(tasks, waiters, requests, stock)
 }
@@ -156,27 +156,27 @@ pub fn wake_unfair_waiters(s: BatchSemaphore) -> BatchSemaphore
 }
 
 // A queued request that cannot go on: the permits are reserved, or too few for its least.
-fn cannot_progress(r: Request, reserved: bool, stock: u32) -> bool
-    ensures { λ b. ⌜ b ≡ (reserved || ltb stock (r .ask .least)) ⌝ }
+fn cannot_progress(waiter: Request, reserved: bool, stock: u32) -> bool
+    ensures { λ b. ⌜ b ≡ (reserved || ltb stock (waiter .ask .least)) ⌝ }
 {
     if reserved {
         return true;
     }
-    stock < r.ask.least
+    stock < waiter.ask.least
 }
 
 // A request that cannot go on has its task blocked, unless the task is finished or the acting one.
-fn reblock(tasks: Tasks, r: Request, reserved: bool, stock: u32, me: TaskId) -> Tasks
+fn reblock(tasks: Tasks, waiter: Request, reserved: bool, stock: u32, me: TaskId) -> Tasks
     requires { ⌜ tasks .count ≤ maxTasks ⌝ }
-    ensures { λ q. ⌜ ShowsTasks q (tasks .count) (reblocked reserved stock me (requestOf r) (tasksOf tasks)) ⌝ }
+    ensures { λ q. ⌜ ShowsTasks q (tasks .count) (reblocked reserved stock me (requestOf waiter) (tasksOf tasks)) ⌝ }
 {
-    if !cannot_progress(r, reserved, stock) {
+    if !cannot_progress(waiter, reserved, stock) {
         return tasks;
     }
-    if is_stale(tasks, r) {
+    if is_stale(tasks, waiter) {
         return tasks;
     }
-    let t = r.task;
+    let t = waiter.task;
     if t.0 == me.0 {
         return tasks;
     }
@@ -199,8 +199,8 @@ fn reblock_queue(
     let mut i: usize = 0;
     while i < len {
         let x = waiters.at(i);
-        let r = requests.get(x);
-        blocked = reblock(blocked, r, reserved, stock, me);
+        let waiter = requests.get(x);
+        blocked = reblock(blocked, waiter, reserved, stock, me);
         i += 1;
     }
     blocked
@@ -251,8 +251,8 @@ fn wake_all(tasks: Tasks, waiters: Waiters, requests: Requests) -> Tasks
     let mut i: usize = 0;
     while i < len {
         let x = waiters.at(i);
-        let r = requests.get(x);
-        woken = wake_unless_stale(woken, r);
+        let waiter = requests.get(x);
+        woken = wake_unless_stale(woken, waiter);
         i += 1;
     }
     woken
@@ -282,8 +282,8 @@ fn wake_last(tasks: Tasks, requests: Requests, reservation: Reservation) -> Task
     if !reservation.made {
         return tasks;
     }
-    let r = requests.get(reservation.slot);
-    wake_unless_stale(tasks, r)
+    let holder = requests.get(reservation.slot);
+    wake_unless_stale(tasks, holder)
 }
 
 // Nobody waits any more: the queue is emptied in order, then the reservation, and who waited is woken. Nothing if closed.

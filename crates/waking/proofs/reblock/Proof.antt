@@ -30,7 +30,7 @@ returns-4 c =
     let p = e .before .before .before in
     let a = p .before .args in
     shown _ _ _ _ (c .block .ensures)
-    (blocks (a .reserved) (a .stock) (a .me) (requestOf (a .r)) (tasksOf (a .tasks)) _ (p .cannot-progress .ensures) (e .before .before .if1 .left) _ (e .before .is-stale .ensures) (e .if2 .left) (c .before .if3 .left))
+    (blocks (a .reserved) (a .stock) (a .me) (requestOf (a .waiter)) (tasksOf (a .tasks)) _ (p .cannot-progress .ensures) (e .before .before .if1 .left) _ (e .before .is-stale .ensures) (e .if2 .left) (c .before .if3 .left))
 
 pub reblock-spec : {M : Type 1} → statement M
 reblock-spec =

@@ -15,7 +15,7 @@ unblock-and-wake-requires c κs = search needs
 returns-2 : tie.Need-returns-2
 returns-2 c =
     let a = c .before .before .before .args in
-    shown _ _ _ _ (c .unblock-and-wake .ensures) (ask-fits (a .stock) (requestOf (a .r)) (tasksOf (a .tasks)) (c .before .if1 .left))
+    shown _ _ _ _ (c .unblock-and-wake .ensures) (ask-fits (a .stock) (requestOf (a .holder)) (tasksOf (a .tasks)) (c .before .if1 .left))
 
 pub wake-holder-spec : {M : Type 1} → statement M
 wake-holder-spec = tie.close (tie.spec returns unblock-and-wake-requires returns-2)
