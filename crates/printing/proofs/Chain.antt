@@ -13,9 +13,11 @@ use Rattle.rules.specs.Script.{answerText, closedText, takerText}
 use Rattle.rules.proofs.Decimal.{digits-length}
 use Rattle.text.specs.Writing.{Appended}
 use Rattle.text.proofs.Buffer.{appended-then}
-use Rattle.printing.specs.declared.Answer.{Answer}
-use Rattle.printing.specs.declared.Answer.the-variants.{Made, Refused}
-use Rattle.printing.specs.Printed.{Printed, answered}
+use Rattle.replies.specs.declared.Refusal.{Refusal}
+use Rattle.replies.specs.declared.Reply.{Reply}
+use Rattle.replies.specs.declared.Reply.the-variants.{Made, Refused}
+use Rattle.replies.specs.Answers.{numberOf, answerOf}
+use Rattle.printing.specs.Printed.{Printed}
 
 pub printed-then : {old : List ℕ} {at : ℕ} {xs mid : List ℕ} {p : ℕ} {ys new : List ℕ} {r : ℕ} (m k : ℕ) → at + m ≤ length old → Printed m old at xs mid p → Printed k mid p ys new r → Printed (m + k) old at (xs ++ ys) new r
 printed-then {xs = xs} {ys = ys} m k room a b =
@@ -50,16 +52,16 @@ printed-field old at n mid p new r h room a b =
     printed-then 10 1 (omega arith) (record { written = a; short = digits-length n 9 (omega arith) }) (printed-byte b)
 
 -- a word, a slot, and a refusal
-module _ (old new : List ℕ) (at r : ℕ) (a : Answer) where
-  pub printed-word : (k : Answer) (w : List ℕ) → a ≡ k → Appended old at w new r → w ≡ answerText (answered k) → length w ≤ 7 → Printed 7 old at (answerText (answered a)) new r
+module _ (old new : List ℕ) (at r : ℕ) (a : Reply) where
+  pub printed-word : (k : Reply) (w : List ℕ) → a ≡ k → Appended old at w new r → w ≡ answerText (answerOf k) → length w ≤ 7 → Printed 7 old at (answerText (answerOf a)) new r
   printed-word k w e p q h = rw (e, ← q) (record { written = p; short = h })
 
   module _ (mid : List ℕ) (p : ℕ) (room : at + 7 ≤ length old) where
-    pub printed-made : (x : Slot) → a ≡ Made x → Appended old at (115 ∷ []) mid p → Printed 3 mid p (digits (x .0)) new r → Printed 7 old at (answerText (answered a)) new r
+    pub printed-made : (x : Slot) → a ≡ Made x → Appended old at (115 ∷ []) mid p → Printed 3 mid p (digits (x .0)) new r → Printed 7 old at (answerText (answerOf a)) new r
     printed-made x e w d = rw e (printed-longer (omega arith) (printed-then 1 3 (omega arith) (printed-byte w) d))
 
-    pub printed-refused : (n : ℕ) → a ≡ Refused n → Appended old at (114 ∷ []) mid p → Printed 3 mid p (digits n) new r → Printed 7 old at (answerText (answered a)) new r
-    printed-refused n e w d = rw e (printed-longer (omega arith) (printed-then 1 3 (omega arith) (printed-byte w) d))
+    pub printed-refused : (f : Refusal) (n : ℕ) → a ≡ Refused f → n ≡ numberOf f → Appended old at (114 ∷ []) mid p → Printed 3 mid p (digits n) new r → Printed 7 old at (answerText (answerOf a)) new r
+    printed-refused f n e q w d = rw (e, ← q) (printed-longer (omega arith) (printed-then 1 3 (omega arith) (printed-byte w) d))
 
 -- a taker, and one behind a comma
 module _ (old new : List ℕ) (at r : ℕ) (t : Taker) where

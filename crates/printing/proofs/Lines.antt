@@ -6,7 +6,7 @@ use mathlib.Core.List.{List, [], _∷_, _++_, append-assoc}
 use lib.ListN.{length}
 use Rattle.rules.specs.declared.Grant.{Grant}
 use Rattle.rules.specs.State.{available, stock}
-use Rattle.rules.specs.Steps.{Answer as RuleAnswer, Outcome}
+use Rattle.rules.specs.Steps.{Answer, Outcome}
 use Rattle.rules.specs.Text.{space, lineFeed, joinedBy}
 use Rattle.rules.specs.Script.{answerText, grantsText, outcomeText}
 use Rattle.text.specs.Writing.{Appended}
@@ -15,11 +15,11 @@ use Rattle.printing.specs.Printed.{Printed, countsText, lineText}
 use Rattle.printing.proofs.Chain.{printed-then, printed-byte}
 
 -- piece by piece
-line-pieces : (a : RuleAnswer) (c : Counts) (gs : List Grant) → answerText a ++ space ∷ [] ++ countsText c ++ grantsText gs ++ lineFeed ∷ [] ≡ lineText a c gs
+line-pieces : (a : Answer) (c : Counts) (gs : List Grant) → answerText a ++ space ∷ [] ++ countsText c ++ grantsText gs ++ lineFeed ∷ [] ≡ lineText a c gs
 unfolding joinedBy
 line-pieces a c gs = simp append-assoc
 
-pub line-printed : (old m₁ m₂ m₃ m₄ new : List ℕ) (at p₁ p₂ p₃ p₄ r : ℕ) (a : RuleAnswer) (c : Counts) (gs : List Grant) → at + 180 ≤ length old
+pub line-printed : (old m₁ m₂ m₃ m₄ new : List ℕ) (at p₁ p₂ p₃ p₄ r : ℕ) (a : Answer) (c : Counts) (gs : List Grant) → at + 180 ≤ length old
     → Printed 7 old at (answerText a) m₁ p₁ → Appended m₁ p₁ (space ∷ []) m₂ p₂ → Printed 44 m₂ p₂ (countsText c) m₃ p₃ → Printed 127 m₃ p₃ (grantsText gs) m₄ p₄ → Appended m₄ p₄ (lineFeed ∷ []) new r
     → Printed 180 old at (lineText a c gs) new r
 line-printed old m₁ m₂ m₃ m₄ new at p₁ p₂ p₃ p₄ r a c gs room w₁ w₂ w₃ w₄ w₅ =

@@ -3,29 +3,16 @@ use Prim.Native.Nat.{ℕ, _≤_}
 use mathlib.Core.List.{List, [], _∷_, _++_, map}
 use lib.ListN.{length, drop}
 use Rattle.rules.specs.declared.Grant.{Grant}
-use Rattle.rules.specs.Steps.{Answer as RuleAnswer}
-use Rattle.rules.specs.Steps.Answer.{done, granted, pending, closed, none-left, made, refused}
+use Rattle.rules.specs.Steps.{Answer}
 use Rattle.rules.specs.Text.{space, comma, joinedBy, digits}
 use Rattle.rules.specs.Script.{answerText, closedText, takerText, grantsText, endLine}
 use Rattle.text.specs.Writing.{Appended}
-use Rattle.printing.specs.declared.Answer.{Answer}
-use Rattle.printing.specs.declared.Answer.the-variants.{Done, Granted, Pending, Closed, NoneLeft, Made, Refused}
 use Rattle.printing.specs.declared.Counts.{Counts}
 
 -- a text of at most so many bytes, written into a buffer
 pub record Printed (most : ℕ) (old : List ℕ) (at : ℕ) (text new : List ℕ) (r : ℕ) : Type 0 where
   pub written : Appended old at text new r
   pub short : length text ≤ most
-
--- the answer of the rules
-abbrev pub answered : Answer → RuleAnswer
-answered Done = done
-answered Granted = granted
-answered Pending = pending
-answered Closed = closed
-answered NoneLeft = none-left
-answered (Made x) = made x
-answered (Refused n) = refused n
 
 -- the takers of some grants, joined by commas
 abbrev pub takersText : List Grant → List ℕ
@@ -45,7 +32,7 @@ countsText c =
     digits (c .available) ++ space ∷ [] ++ (digits (c .stock) ++ space ∷ []) ++ (closedText (c .closed) ++ space ∷ []) ++ (digits (c .queued) ++ space ∷ [])
 
 -- the whole line
-abbrev pub lineText : RuleAnswer → Counts → List Grant → List ℕ
+abbrev pub lineText : Answer → Counts → List Grant → List ℕ
 lineText a c gs =
     endLine
     (joinedBy space

@@ -1,4 +1,4 @@
-// The line that a step prints: its answer, what the state shows, and its grants.
+// The line that a step prints: its reply, what the state shows, and its grants.
 ghost use mathlib.Core.Path.{_≡_};
 ghost use mathlib.Core.List.{_∷_, _++_, []};
 ghost use Prim.Native.Nat.{_+_, _≤_, _<_};
@@ -6,23 +6,13 @@ ghost use lib.ListN.{length, take};
 ghost use Rattle.rules.specs.Sizes.{slotCount};
 ghost use Rattle.rules.specs.Text.{space, comma, digits};
 ghost use Rattle.rules.specs.Script.{closedText, takerText, grantsText, answerText};
+ghost use Rattle.replies.specs.Answers.{answerOf};
 ghost use Rattle.grants.specs.View.{grantsOf};
-ghost use Rattle.printing.specs.Printed.{Printed, answered, takersText, restText, countsText, lineText};
+ghost use Rattle.printing.specs.Printed.{Printed, takersText, restText, countsText, lineText};
 use grants::Grants;
+use replies::Reply;
 use rules::Grant;
-use rules::Slot;
 use rules::Taker;
-
-// What a step answers.
-pub enum Answer {
-    Done,
-    Granted,
-    Pending,
-    Closed,
-    NoneLeft,
-    Made(Slot),
-    Refused(u8),
-}
 
 // What a line shows of the state: available, stock, closed or not, queue length.
 pub struct Counts {
@@ -65,23 +55,23 @@ fn print_counts(buf: &mut [u8], at: usize, c: Counts) -> usize
     print_field(buf, r, c.queued)
 }
 
-fn print_answer(buf: &mut [u8], at: usize, a: Answer) -> usize
+fn print_answer(buf: &mut [u8], at: usize, a: Reply) -> usize
     requires { ⌜ at + 7 ≤ length (now buf) ⌝ }
-    ensures { λ r. ⌜ Printed 7 (now (buf .entry)) at (answerText (answered a)) (now (buf .exit)) r ⌝ }
+    ensures { λ r. ⌜ Printed 7 (now (buf .entry)) at (answerText (answerOf a)) (now (buf .exit)) r ⌝ }
 {
     match a {
-        Answer::Done => text::put(buf, at, b"done"),
-        Answer::Granted => text::put(buf, at, b"granted"),
-        Answer::Pending => text::put(buf, at, b"pending"),
-        Answer::Closed => text::put(buf, at, b"closed"),
-        Answer::NoneLeft => text::put(buf, at, b"none"),
-        Answer::Made(x) => {
+        Reply::Done => text::put(buf, at, b"done"),
+        Reply::Granted => text::put(buf, at, b"granted"),
+        Reply::Pending => text::put(buf, at, b"pending"),
+        Reply::Closed => text::put(buf, at, b"closed"),
+        Reply::NoPermits => text::put(buf, at, b"none"),
+        Reply::Made(x) => {
             let p = text::put(buf, at, b"s");
             print_small(buf, p, x.0)
         }
-        Answer::Refused(n) => {
+        Reply::Refused(n) => {
             let p = text::put(buf, at, b"r");
-            print_small(buf, p, n)
+            print_small(buf, p, replies::number(n))
         }
     }
 }
@@ -144,9 +134,9 @@ fn print_grants(buf: &mut [u8], at: usize, g: Grants) -> usize
 }
 
 // The whole line, which takes at most 180 bytes.
-pub fn print_line(buf: &mut [u8], at: usize, a: Answer, c: Counts, g: Grants) -> usize
+pub fn print_line(buf: &mut [u8], at: usize, a: Reply, c: Counts, g: Grants) -> usize
     requires { ⌜ (g .len ≤ slotCount) × (at + 180 ≤ length (now buf)) ⌝ }
-    ensures { λ r. ⌜ Printed 180 (now (buf .entry)) at (lineText (answered a) c (grantsOf g)) (now (buf .exit)) r ⌝ }
+    ensures { λ r. ⌜ Printed 180 (now (buf .entry)) at (lineText (answerOf a) c (grantsOf g)) (now (buf .exit)) r ⌝ }
 {
     let p = print_answer(buf, at, a);
     let q = text::put(buf, p, b" ");

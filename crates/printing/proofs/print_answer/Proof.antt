@@ -70,6 +70,9 @@ slice-aggregate-put-7 c = search needs
 put-requires-7 : tie.Need-put-requires-7
 put-requires-7 c κs = search needs
 
+number-requires : tie.Need-number-requires
+number-requires c κs = search needs
+
 print-small-requires-2 : tie.Need-print-small-requires-2
 print-small-requires-2 c κs = search needs
 
@@ -141,6 +144,7 @@ print-answer-spec =
     enum-known-a-2
     slice-aggregate-put-7
     put-requires-7
+    number-requires
     print-small-requires-2
     same-length
     returns
