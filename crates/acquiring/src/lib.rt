@@ -7,7 +7,7 @@ ghost use Rattle.rules.specs.State.{stock, withReservation, alterRequest, _▷_
 ghost use Rattle.rules.specs.Taking.{takeAs};
 ghost use Rattle.rules.specs.Scan.{leave as leaveOf};
 ghost use Rattle.rules.specs.Waking.{wakeUnfair, reblock};
-ghost use Rattle.rules.specs.Polling.{polling, pollWork, takesIn, polled as polledOf, pollMark};
+ghost use Rattle.rules.specs.Polling.{polling, pollWork, takesIn, pollMark};
 ghost use Rattle.rules.specs.Steps.{failTry, tryBy, pollAnswer, poll};
 ghost use Rattle.taking.specs.Parts.{MayTick};
 ghost use Rattle.state.specs.View.{view, Shaped, Shows};
@@ -137,7 +137,7 @@ fn poll_work(s: BatchSemaphore, me: TaskId, x: Slot, p: Polling) -> BatchSemapho
 fn poll_grants(requests: Requests, me: TaskId, x: Slot, p: Polling) -> Grants
     ensures { λ g. ⌜ grantsOf g ≡ takenBy (takesIn p) me x (slotsOf requests) ⌝ }
 {
-    if !takes_in(p) {
+    if !deciding::takes_in(p) {
         return Grants::none();
     }
     let r = requests.get(x);
@@ -149,38 +149,6 @@ fn poll_grants(requests: Requests, me: TaskId, x: Slot, p: Polling) -> Grants
         task: me,
     };
     Grants::one(g)
-}
-
-// Whether a poll takes.
-pub fn takes_in(p: Polling) -> bool
-    ensures { λ b. ⌜ b ≡ takesIn p ⌝ }
-{
-    match p {
-        Polling::Holds => false,
-        Polling::IsClosed => false,
-        Polling::Stays => false,
-        Polling::QueuesBack => false,
-        Polling::QueuesFront => false,
-        Polling::TakesReserved => true,
-        Polling::Takes => true,
-        Polling::Reserves => false,
-    }
-}
-
-// What a poll answers.
-pub fn polled(p: Polling) -> Polled
-    ensures { λ r. ⌜ r ≡ polledOf p ⌝ }
-{
-    match p {
-        Polling::Holds => Polled::Granted,
-        Polling::IsClosed => Polled::Closed,
-        Polling::Stays => Polled::Pending,
-        Polling::QueuesBack => Polled::Pending,
-        Polling::QueuesFront => Polled::Pending,
-        Polling::TakesReserved => Polled::Granted,
-        Polling::Takes => Polled::Granted,
-        Polling::Reserves => Polled::Pending,
-    }
 }
 
 fn poll_reply(a: Polled) -> Reply
@@ -213,7 +181,7 @@ pub fn poll_by(s: BatchSemaphore, me: TaskId, x: Slot, p: Polling) -> Stepped
     let requests = s.requests;
     let grants = poll_grants(requests, me, x, p);
     let worked = poll_work(s, me, x, p);
-    let a = polled(p);
+    let a = deciding::polled(p);
     let reply = poll_reply(a);
     let state = mark_polled(worked, me, x, a);
     Stepped {

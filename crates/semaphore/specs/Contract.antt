@@ -1,0 +1,34 @@
+-- What every call owes: refusals by number with the very struct handed in, and else the outcome of document 01's step.
+use Prim.Native.Nat.{ℕ}
+use mathlib.Core.Path.{_≡_}
+use mathlib.Core.Bool.{true, false}
+use mathlib.Core.List.{[]}
+use mathlib.Core.Option.{none, some}
+use Rattle.rules.specs.declared.Step.{Step}
+use Rattle.rules.specs.Steps.{effect}
+use Rattle.rules.specs.Steps.Answer.{refused}
+use Rattle.rules.specs.Refusals.{refusal}
+use Rattle.grants.specs.View.{grantsOf}
+use Rattle.replies.specs.Answers.{answerOf}
+use Rattle.state.specs.declared.BatchSemaphore.{BatchSemaphore}
+use Rattle.state.specs.View.{view}
+use Rattle.broken.specs.Broken.{isBroken}
+use Rattle.outcomes.specs.declared.Stepped.{Stepped}
+use Rattle.outcomes.specs.View.{outcomeOf}
+
+-- A refusal returns its number, no grants, and the state exactly as it came in.
+pub record Refuses (n : ℕ) (s : BatchSemaphore) (r : Stepped) : Type 0 where
+  pub answer : answerOf (r .reply) ≡ refused n
+  pub grants : grantsOf (r .grants) ≡ []
+  pub state : r .state ≡ s
+
+-- a step of a struct, and what comes back
+pub record Steps (s : BatchSemaphore) (a : Step) (r : Stepped) : Type 0 where
+  -- a broken struct is refused with 14
+  pub broken : isBroken s ≡ true → Refuses 14 s r
+  -- else the first number that the step meets is given
+  pub refused : isBroken s ≡ false → (n : ℕ) → refusal a (view s) ≡ some n → Refuses n s r
+  -- and where it meets none, answer, grants and state are the rules' outcome of the step
+  pub accepted : isBroken s ≡ false → refusal a (view s) ≡ none → outcomeOf r ≡ effect a (view s)
+  -- what comes back is broken only if what was handed in was
+  pub unbroken : isBroken s ≡ false → isBroken (r .state) ≡ false
