@@ -20,7 +20,7 @@ use waiters::Reservation;
 use waiters::Waiters;
 
 // A reserving request that refusal 7 would meet.
-fn bad_reserving(least: u32, asked: u32) -> bool
+pub fn bad_reserving(least: u32, asked: u32) -> bool
     ensures { λ b. ⌜ b ≡ badReserving least asked ⌝ }
 {
     if asked == 0 {

@@ -1,0 +1,53 @@
+-- Each ground, from the tests that the code makes.
+use Prim.Native.Nat.{ℕ, _+_, _-_, _≤_, _<_}
+use native.Mathlib.Decide.{decLt}
+use native.Mathlib.Omega.{arith}
+use mathlib.Core.Path.{_≡_, sym, ap, _∙_}
+use mathlib.Core.Bool.{Bool, true, false, not, _&&_, _||_, and-false}
+use borrow.Author.Tests.{lt-ltb, le-ltb, eq-eqb}
+use lib.Dec.{ltb, eqb}
+use Rattle.rules.specs.declared.Slot.{Slot}
+use Rattle.rules.specs.declared.Dropping.{Dropping}
+use Rattle.rules.specs.Request.{Request}
+use Rattle.rules.specs.State.{State, requestAt}
+use Rattle.rules.specs.Steps.{dropping}
+use Rattle.rules.specs.Refusals.{pollsNothing, returned, givesBack}
+use Rattle.rules.proofs.Bools.{not-zero}
+
+pub both-so : {a b c d : Bool} → a ≡ c → b ≡ d → (a && b) ≡ (c && d)
+both-so e f = rw (e, f)
+
+-- 10: what is left up to m, against n
+pub too-many : (m s n : ℕ) → s ≤ m → ltb (m - s) n ≡ (ltb 0 n && ltb m (s + n))
+too-many m s n h =
+    elim (decLt (m - s) n) [
+      | yes l ↦ rw (lt-ltb (m - s) n l, lt-ltb 0 n (omega arith), lt-ltb m (s + n) (omega arith))
+      | no l ↦ rw (le-ltb (m - s) n (omega arith), le-ltb m (s + n) (omega arith), and-false (ltb 0 n))
+    ]
+
+-- the request that is read at the slot
+module _ (x : Slot) (s : State) (r : Request) (e : r ≡ requestAt x s) where
+  -- 5: reserving, asking for some, holding, closed
+  as-read : pollsNothing x s ≡ not (r .ask .reserving) && eqb (r .ask .asked) 0 && not (r .holding || s .closed)
+  as-read = ap (λ (q : Request). not (q .ask .reserving) && eqb (q .ask .asked) 0 && not (q .holding || s .closed)) (sym e)
+
+  pub reserving-asks : r .ask .reserving ≡ true → false ≡ pollsNothing x s
+  reserving-asks v = sym (as-read ∙ rw v)
+
+  module _ (v : r .ask .reserving ≡ false) where
+    pub count-asks : 0 < r .ask .asked → false ≡ pollsNothing x s
+    count-asks l = sym (as-read ∙ rw (v, not-zero (r .ask .asked) l))
+
+    module _ (l : r .ask .asked ≤ 0) where
+      of-nothing : pollsNothing x s ≡ not (r .holding || s .closed)
+      of-nothing = as-read ∙ rw (v, eq-eqb (r .ask .asked) 0 (omega arith))
+
+      pub holding-asks : r .holding ≡ true → false ≡ pollsNothing x s
+      holding-asks h = sym (of-nothing ∙ rw h)
+
+      pub else-closed : r .holding ≡ false → not (s .closed) ≡ pollsNothing x s
+      else-closed h = sym (of-nothing ∙ rw h)
+
+  -- what a drop releases
+  pub gives : (d : Dropping) (n : ℕ) → n ≡ returned d (r .ask .asked) → d ≡ dropping x s → n ≡ givesBack x s
+  gives d n en ed = en ∙ ap (λ (d : Dropping). returned d (r .ask .asked)) ed ∙ ap (λ (q : Request). returned (dropping x s) (q .ask .asked)) e
