@@ -6,13 +6,16 @@ use mathlib.Core.List.{[]}
 use mathlib.Core.Option.{none, some}
 use Rattle.rules.specs.declared.Step.{Step}
 use Rattle.rules.specs.Steps.{effect}
-use Rattle.rules.specs.Steps.Answer.{refused}
+use Rattle.rules.specs.Steps.Answer.{done, made, refused}
 use Rattle.rules.specs.Refusals.{refusal}
 use Rattle.grants.specs.View.{grantsOf}
-use Rattle.replies.specs.Answers.{answerOf}
+use Rattle.replies.specs.declared.Check.{Check}
+use Rattle.replies.specs.Answers.{given, answerOf}
 use Rattle.state.specs.declared.BatchSemaphore.{BatchSemaphore}
 use Rattle.state.specs.View.{view}
 use Rattle.broken.specs.Broken.{isBroken}
+use Rattle.queueing.specs.declared.Granting.{Granting}
+use Rattle.making.specs.declared.Made.{Made}
 use Rattle.outcomes.specs.declared.Stepped.{Stepped}
 use Rattle.outcomes.specs.View.{outcomeOf}
 
@@ -21,6 +24,23 @@ pub record Refuses (n : ℕ) (s : BatchSemaphore) (r : Stepped) : Type 0 where
   pub answer : answerOf (r .reply) ≡ refused n
   pub grants : grantsOf (r .grants) ≡ []
   pub state : r .state ≡ s
+
+-- what comes back of a step that a check did not accept
+pub record NotAccepted (c : Check) (s : BatchSemaphore) (r : Stepped) : Type 0 where
+  pub refuses : (n : ℕ) → given c ≡ some n → Refuses n s r
+  pub state : r .state ≡ s
+
+-- done, with the grants on the way
+pub record Granted (g : Granting) (r : Stepped) : Type 0 where
+  pub answer : answerOf (r .reply) ≡ done
+  pub grants : r .grants ≡ g .grants
+  pub state : r .state ≡ g .state
+
+-- the slot of a request that was made, and no grants
+pub record MadeSo (m : Made) (r : Stepped) : Type 0 where
+  pub answer : answerOf (r .reply) ≡ made (m .slot)
+  pub grants : grantsOf (r .grants) ≡ []
+  pub state : r .state ≡ m .state
 
 -- a step of a struct, and what comes back
 pub record Steps (s : BatchSemaphore) (a : Step) (r : Stepped) : Type 0 where

@@ -1,0 +1,67 @@
+use Rattle.rules.specs.declared.Act.the-variants.{TryUpgrade}
+use Rattle.rules.specs.declared.Priority.the-variants.{Front}
+use Rattle.semaphore.proofs.Allowing.{upgrade-ticks, upgrade-more, takes-stock}
+use mathlib.Core.Path.{subst}
+use Rattle.rules.specs.declared.Direct.{Direct}
+use Rattle.rules.specs.Steps.{tryBy}
+use Rattle.outcomes.specs.View.{Shown}
+use Prim.Native.Nat.{_-_}
+use native.Mathlib.Omega.{arith}
+use Rattle.rules.specs.Steps.{_does_, effectOf}
+use Rattle.state.specs.View.{view}
+use Rattle.semaphore.proofs.Calls.{steps-broken, steps-refused, steps-accepted, unrefused}
+use borrow.Author.Needs.{needs}
+use Rattle.semaphore.proofs.try_upgrade.Statement.{statement}
+use Rattle.semaphore.proofs.try_upgrade.Tie as tie
+
+is-broken-requires : tie.Need-is-broken-requires
+is-broken-requires c κs = search needs
+
+refuse-broken-requires : tie.Need-refuse-broken-requires
+refuse-broken-requires c κs = search needs
+
+returns : tie.Need-returns
+returns c = steps-broken (c .before .before .before .args .s) (c .before .before .before .args .me does TryUpgrade (c .before .before .before .args .held) (c .before .before .before .args .wanted)) _ _ (c .before .before .is-broken .ensures) (c .before .if1 .taken) (c .refuse-broken .ensures)
+
+check-try-upgrade-requires : tie.Need-check-try-upgrade-requires
+check-try-upgrade-requires c κs = search needs
+
+is-accepted-requires : tie.Need-is-accepted-requires
+is-accepted-requires c κs = search needs
+
+refuse-requires : tie.Need-refuse-requires
+refuse-requires c κs = search needs
+
+returns-2 : tie.Need-returns-2
+returns-2 c = steps-refused (c .before .before .before .before .before .before .args .s) (c .before .before .before .before .before .before .args .me does TryUpgrade (c .before .before .before .before .before .before .args .held) (c .before .before .before .before .before .before .args .wanted)) _ _ (c .before .before .before .before .before .is-broken .ensures) (c .before .before .before .before .if1 .left) (c .before .before .before .check-try-upgrade .result) (c .before .before .before .check-try-upgrade .ensures) _ (c .before .before .is-accepted .ensures) (c .before .if2 .taken) (c .refuse .ensures)
+
+sub-missing : tie.Need-sub-missing
+sub-missing c = omega (arith, upgrade-more (c .before .before .before .before .before .args .me) (c .before .before .before .before .before .args .held) (c .before .before .before .before .before .args .wanted) (view (c .before .before .before .before .before .args .s)) (unrefused (c .before .before .before .before .before .args .me does TryUpgrade (c .before .before .before .before .before .args .held) (c .before .before .before .before .before .args .wanted)) (c .before .before .before .before .before .args .s) (c .before .before .check-try-upgrade .result) (c .before .before .check-try-upgrade .ensures) _ (c .before .is-accepted .ensures) (c .if2 .left)))
+
+acquire-permits-requires : tie.Need-acquire-permits-requires
+acquire-permits-requires c κs = (c .before .before .before .before .is-broken .ensures .fit (c .before .before .before .if1 .left)) .shaped
+
+try-by-requires : tie.Need-try-by-requires
+try-by-requires c κs = ((c .before .before .before .before .before .is-broken .ensures .fit (c .before .before .before .before .if1 .left)) .shaped, upgrade-ticks (c .before .before .before .before .before .before .args .me) (c .before .before .before .before .before .before .args .held) (c .before .before .before .before .before .before .args .wanted) (view (c .before .before .before .before .before .before .args .s)) (unrefused (c .before .before .before .before .before .before .args .me does TryUpgrade (c .before .before .before .before .before .before .args .held) (c .before .before .before .before .before .before .args .wanted)) (c .before .before .before .before .before .before .args .s) (c .before .before .before .check-try-upgrade .result) (c .before .before .before .check-try-upgrade .ensures) _ (c .before .before .is-accepted .ensures) (c .before .if2 .left)), λ e. takes-stock Front (c .before .before .before .before .before .before .args .wanted - c .before .before .before .before .before .before .args .held) (view (c .before .before .before .before .before .before .args .s)) _ (c .acquire-permits .ensures) e)
+
+returns-3 : tie.Need-returns-3
+unfolding effectOf
+returns-3 c =
+    steps-accepted (c .before .before .before .before .before .before .before .args .s) (c .before .before .before .before .before .before .before .args .me does TryUpgrade (c .before .before .before .before .before .before .before .args .held) (c .before .before .before .before .before .before .before .args .wanted)) _ _ (c .before .before .before .before .before .before .is-broken .ensures) (c .before .before .before .before .before .if1 .left) (c .before .before .before .before .check-try-upgrade .result) (c .before .before .before .before .check-try-upgrade .ensures) _ (c .before .before .before .is-accepted .ensures) (c .before .before .if2 .left)
+    (subst (λ (x : Direct). Shown (c .try-by .result) (tryBy x (c .before .before .before .before .before .before .before .args .me) (c .before .before .before .before .before .before .before .args .wanted - c .before .before .before .before .before .before .before .args .held) (view (c .before .before .before .before .before .before .before .args .s)))) (c .before .acquire-permits .ensures) (c .try-by .ensures))
+
+pub try-upgrade-spec : {M : Type 1} → statement M
+try-upgrade-spec =
+    tie.close
+    (tie.spec
+    is-broken-requires
+    refuse-broken-requires
+    returns
+    check-try-upgrade-requires
+    is-accepted-requires
+    refuse-requires
+    returns-2
+    sub-missing
+    acquire-permits-requires
+    try-by-requires
+    returns-3)
