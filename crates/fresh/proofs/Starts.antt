@@ -1,11 +1,11 @@
--- What holds of every start: no second answer fits its contract, and what comes back is not broken.
+-- What holds of every start: 12 exactly where document 01 gives it, no second answer, and what comes back is not broken.
 use Prim.Native.Nat.{ℕ}
 use native.Mathlib.Omega.{arith}
 use mathlib.Core.Path.{_≡_, refl, sym, _∙_}
 use mathlib.Core.Bool.{Bool, true, false, cond}
-use Rattle.rules.specs.Steps.{Outcome}
+use Rattle.rules.specs.Steps.{Outcome, quiet}
 use Rattle.rules.specs.Steps.Answer.{done, refused}
-use Rattle.rules.specs.Fresh.{Start, refuses12}
+use Rattle.rules.specs.Fresh.{Start, fresh, refusedFresh, refuses12}
 use Rattle.rules.specs.Runs.{start}
 use Rattle.rules.specs.Sound.{Sound}
 use Rattle.rules.proofs.Bools.{by-cond}
@@ -22,6 +22,22 @@ told true true e = refl
 told true false e = let z : _≡_ {A = ℕ} 0 1 = cc in absurd (omega arith)
 told false true e = let z : _≡_ {A = ℕ} 0 1 = cc in absurd (omega arith)
 told false false e = refl
+
+-- 12 exactly where document 01 gives it.
+pub refused-exactly : (r : Started) (a : Start) → Gives r (start a) → r .refused ≡ refuses12 a
+unfolding start
+refused-exactly r a g = told (r .refused) (refuses12 a) (g .answer ∙ go (refuses12 a))
+  where
+    go : (b : Bool) → cond b (quiet (refused 12) refusedFresh) (quiet done (fresh a)) .answer ≡ cond b (refused 12) done
+    go true = refl
+    go false = refl
+
+-- Accepted, it stands for the fresh state.
+pub accepted-fresh : (r : Started) (a : Start) → Gives r (start a) → r .refused ≡ false → view (r .state) ≡ fresh a
+unfolding start
+accepted-fresh r a g e =
+    let f : refuses12 a ≡ false = sym (refused-exactly r a g) ∙ e in
+    g .view ∙ rw f
 
 -- Two results that both meet the contract have the same answer and stand for the same state.
 pub starts-once : (r q : Started) (o : Outcome) → Gives r o → Gives q o

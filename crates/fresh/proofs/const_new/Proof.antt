@@ -1,3 +1,4 @@
+-- Refused by the sizes; else the fresh state, its batches not set up.
 use native.Mathlib.Omega.{arith}
 use borrow.Author.Needs.{needs}
 use lib.ListN.{length}

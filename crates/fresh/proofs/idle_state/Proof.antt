@@ -1,3 +1,4 @@
+-- The empty queue, no reservation and free slots, beside the permits and the tasks that were given.
 use borrow.Author.Needs.{needs}
 use Rattle.fresh.proofs.Starting.{shows-idle}
 use Rattle.fresh.proofs.idle_state.Statement.{statement}

@@ -1,3 +1,4 @@
+-- Refused by the sizes or by the maker; else the fresh state, its first batch with the clock of the maker's row.
 use native.Mathlib.Omega.{arith}
 use borrow.Author.Needs.{needs}
 use borrow.Author.Tests.{lt-leb}

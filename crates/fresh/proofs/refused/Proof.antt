@@ -1,3 +1,4 @@
+-- The state that document 01 names for 12.
 use borrow.Author.Needs.{needs}
 use Rattle.fresh.proofs.Starting.{gives-refused}
 use Rattle.fresh.proofs.refused.Statement.{statement}
