@@ -1,27 +1,33 @@
 -- Waking, reblocking and closing as document 01 has them come to what they do to the parts.
-use Prim.Native.Nat.{ℕ}
 use mathlib.Core.Path.{_≡_, refl, sym, ap, _∙_}
 use mathlib.Core.Bool.{Bool, true, false, cond, not, _&&_}
 use mathlib.Core.List.{List, [], _∷_}
 use mathlib.Core.Option.{Option, none, some, Option·getD}
 use lib.Dec.{leb}
-use lib.ListN.{getD}
+use lib.ListN.{getD, set}
+use lib.Seq.{set-getD}
 use Rattle.rules.specs.declared.TaskId.{TaskId}
 use Rattle.rules.specs.declared.Slot.{Slot}
-use Rattle.rules.specs.Task.{Task, noTask, isFinished}
+use Rattle.rules.specs.Task.{Task, noTask, blocked, unblocked, wakened}
 use Rattle.rules.specs.Request.{Request, noRequest, queuedAs}
-use Rattle.rules.specs.State.{State, strict, stock, reserved, sameSlot, requestAt, askedAt, leastAt, taskOf, ownerFinished, close, alterRequest, withTasks, withQueue, withSlots, withReservation}
+use Rattle.rules.specs.State.{State, strict, stock, reserved, taskAt, requestAt, askedAt, leastAt, taskOf, ownerFinished, close, alterTask, alterRequest, withTasks, withQueue, withSlots, withReservation}
 use Rattle.rules.specs.Scan.{without, leave}
 use Rattle.rules.specs.Waking.{clearedIf, wakeEach, wakeBy, wakeUnfair, reblockEach, reblock}
-use Rattle.rules.specs.Steps.{wakeUnfinished, emptyQueue, dropReservation, closing}
+use Rattle.rules.specs.Steps.{emptyQueue, dropReservation, closing}
 use Rattle.rules.proofs.Queues.{by-slot, same-itself}
 use Rattle.rules.proofs.Slots.{field-altered, altered-beside}
-use Rattle.waking.specs.Parts.{requestIn, stale, awake, halted, isHeldUp, wokenIfLive, wokenIfLeast, reblocked, inTurn, forEach, unqueued, standing, wokenBy, wokenLast}
+use Rattle.waking.specs.Parts.{awake, wokenIfLive, wokenIfLeast, isHeldUp, reblocked, inTurn, ownerChanged, forEach, unqueued, standing, wokenBy, wokenLast}
 
--- a test on the tasks alone
-on-tasks : (b : Bool) (ts : List Task) (s : State) → cond b (withTasks ts s) s ≡ withTasks (cond b ts (s .tasks)) s
-on-tasks true ts s = refl
-on-tasks false ts s = refl
+-- a test made on the whole is one made on the part that differs
+through : {A B : Type 0} (g : A → B) (b : Bool) (x y : A) → cond b (g x) (g y) ≡ g (cond b x y)
+through g true x y = refl
+through g false x y = refl
+
+-- one task changed by a test
+on-owner : (b : Bool) (t : TaskId) (f : Task → Task) (s : State)
+    → cond b (alterTask t f s) s ≡ withTasks (set (s .tasks) (t .0) (cond b (f (taskAt t s)) (taskAt t s))) s
+on-owner true t f s = refl
+on-owner false t f s = ap (λ (ts : List Task). withTasks ts s) (sym (set-getD (s .tasks) (t .0) noTask))
 
 -- Waking.
 
@@ -34,22 +40,19 @@ pub wakes-each : (q : List Slot) (s : State) → wakeEach q s ≡ withTasks (for
 unfolding wakeEach inTurn
 wakes-each [] s = refl
 wakes-each (x ∷ q) s =
+    let r = requestAt x s in
     ap (wakeEach q)
-    (on-tasks (leb (leastAt x s) (stock s) && not (ownerFinished x s)) (awake (taskOf x s) (s .tasks)) s
-    ∙ ap (λ (ts : List Task). withTasks ts s) (two-tests (leb (leastAt x s) (stock s)) (ownerFinished x s) _ _))
-    ∙ wakes-each q (withTasks (wokenIfLeast (stock s) (requestAt x s) (s .tasks)) s)
+    (on-owner (leb (leastAt x s) (stock s) && not (ownerFinished x s)) (r .task) (λ a. wakened (unblocked a)) s
+    ∙ ap (λ (a : Task). withTasks (set (s .tasks) (r .task .0) a) s) (two-tests (leb (leastAt x s) (stock s)) (ownerFinished x s) _ _))
+    ∙ wakes-each q (withTasks (ownerChanged (wokenIfLeast (stock s)) r (s .tasks)) s)
 
 wakes-by : (o : Option Slot) (s : State) → wakeBy o s ≡ withTasks (wokenBy o (stock s) (s .slots) (s .queue) (s .tasks)) s
 wakes-by none s = wakes-each (s .queue) s
-wakes-by (some x) s = on-tasks (leb (askedAt x s) (stock s)) (awake (taskOf x s) (s .tasks)) s
+wakes-by (some x) s = through (λ (ts : List Task). withTasks ts s) (leb (askedAt x s) (stock s)) (awake (taskOf x s) (s .tasks)) (s .tasks)
 
 clears : (o : Option Slot) (s : State) → clearedIf o (withReservation o s) ≡ withReservation (standing (s .slots) (s .tasks) o) s
 clears none s = refl
-clears (some x) s = go (ownerFinished x s)
-  where
-    go : (b : Bool) → cond b (withReservation none s) (withReservation (some x) s) ≡ withReservation (cond b none (some x)) s
-    go true = refl
-    go false = refl
+clears (some x) s = through (λ (o : Option Slot). withReservation o s) (ownerFinished x s) none (some x)
 
 -- with v for the reservation, and its task or the queue's woken
 abbrev pub wokenTo : Option Slot → State → State
@@ -69,8 +72,9 @@ reblocks-each : (t : TaskId) (q : List Slot) (s : State)
 unfolding reblockEach inTurn
 reblocks-each t [] s = refl
 reblocks-each t (x ∷ q) s =
-    ap (reblockEach t q) (on-tasks (isHeldUp (reserved s) (stock s) t (requestAt x s) (s .tasks)) (halted (taskOf x s) (s .tasks)) s)
-    ∙ reblocks-each t q (withTasks (reblocked (reserved s) (stock s) t (requestAt x s) (s .tasks)) s)
+    let r = requestAt x s in
+    ap (reblockEach t q) (on-owner (isHeldUp (reserved s) (stock s) t r (taskAt (r .task) s)) (r .task) blocked s)
+    ∙ reblocks-each t q (withTasks (ownerChanged (reblocked (reserved s) (stock s) t) r (s .tasks)) s)
 
 pub reblocks-none : (t : TaskId) (s : State) → strict s ≡ true → reblock t s ≡ s
 unfolding reblock
@@ -84,9 +88,10 @@ reblocks-queue t s e = rw e (reblocks-each t (s .queue) s)
 
 -- Closing.
 
-off-tasks : (b : Bool) (ts : List Task) (s : State) → cond b s (withTasks ts s) ≡ withTasks (cond b (s .tasks) ts) s
-off-tasks true ts s = refl
-off-tasks false ts s = refl
+off-owner : (b : Bool) (t : TaskId) (f : Task → Task) (s : State)
+    → cond b s (alterTask t f s) ≡ withTasks (set (s .tasks) (t .0) (cond b (taskAt t s) (f (taskAt t s)))) s
+off-owner true t f s = ap (λ (ts : List Task). withTasks ts s) (sym (set-getD (s .tasks) (t .0) noTask))
+off-owner false t f s = refl
 
 -- a request marked as not queued has the task that it had
 same-task : (x y : Slot) (s : State) → requestAt y (alterRequest x (queuedAs false) s) .task ≡ requestAt y s .task
@@ -101,23 +106,24 @@ same-turns f g [] a h = refl
 same-turns f g (x ∷ q) a h = rw (h x a) (same-turns f g q (g x a) h)
 
 same-wakes : (x : Slot) (q : List Slot) (s : State)
-    → forEach wokenIfLive (alterRequest x (queuedAs false) s .slots) q (s .tasks) ≡ forEach wokenIfLive (s .slots) q (s .tasks)
+    → forEach (λ r. wokenIfLive) (alterRequest x (queuedAs false) s .slots) q (s .tasks) ≡ forEach (λ r. wokenIfLive) (s .slots) q (s .tasks)
 same-wakes x q s =
     same-turns _ _ q (s .tasks) (λ y ts.
-    ap (λ (t : TaskId). cond (isFinished (getD ts (t .0) noTask .state)) ts (awake t ts)) (same-task x y s))
+    ap (λ (t : TaskId). set ts (t .0) (wokenIfLive (getD ts (t .0) noTask))) (same-task x y s))
 
 -- the state with its queue, tasks and slots changed
 abbrev emptiedTo : List Slot → List Task → List (Option Request) → State → State
 emptiedTo q ts rs s = withQueue q (withTasks ts (withSlots rs s))
 
 empties : (q : List Slot) (s : State)
-    → emptyQueue q s ≡ emptiedTo (inTurn without q (s .queue)) (forEach wokenIfLive (s .slots) q (s .tasks)) (unqueued q (s .slots)) s
+    → emptyQueue q s ≡ emptiedTo (inTurn without q (s .queue)) (forEach (λ r. wokenIfLive) (s .slots) q (s .tasks)) (unqueued q (s .slots)) s
 unfolding emptyQueue inTurn
 empties [] s = refl
 empties (x ∷ q) s =
     let a = leave x s in
-    ap (emptyQueue q) (off-tasks (ownerFinished x a) (awake (taskOf x a) (a .tasks)) a)
-    ∙ empties q (withTasks (wokenIfLive (requestAt x a) (s .tasks)) a)
+    let r = requestAt x a in
+    ap (emptyQueue q) (off-owner (ownerFinished x a) (r .task) (λ b. wakened (unblocked b)) a)
+    ∙ empties q (withTasks (ownerChanged (λ p. wokenIfLive) r (s .tasks)) a)
     ∙ ap (λ (ts : List Task). emptiedTo (inTurn without q (a .queue)) ts (unqueued q (a .slots)) s) (same-wakes x (x ∷ q) s)
 
 -- each slot in turn leaves the front
@@ -129,7 +135,8 @@ none-left (x ∷ q) = rw (same-itself x) (none-left q)
 unreserves : (o : Option Slot) (s : State)
     → dropReservation o (withReservation o s) ≡ withTasks (wokenLast o (s .slots) (s .tasks)) (withReservation none s)
 unreserves none s = refl
-unreserves (some x) s = off-tasks (ownerFinished x s) (awake (taskOf x s) (s .tasks)) (withReservation none s)
+unreserves (some x) s =
+    through (λ (ts : List Task). withTasks ts (withReservation none s)) (ownerFinished x s) (s .tasks) (awake (taskOf x s) (s .tasks))
 
 pub closes-none : (s : State) → s .closed ≡ true → closing s ≡ s
 unfolding closing
@@ -140,10 +147,10 @@ abbrev pub closedTo : List Task → List (Option Request) → State → State
 closedTo ts rs s = withReservation none (emptiedTo [] (wokenLast (s .reservation) rs ts) rs (close s))
 
 pub closes : (s : State) → s .closed ≡ false
-    → closing s ≡ closedTo (forEach wokenIfLive (s .slots) (s .queue) (s .tasks)) (unqueued (s .queue) (s .slots)) s
+    → closing s ≡ closedTo (forEach (λ r. wokenIfLive) (s .slots) (s .queue) (s .tasks)) (unqueued (s .queue) (s .slots)) s
 unfolding closing
 closes s e =
-    let ts = forEach wokenIfLive (s .slots) (s .queue) (s .tasks) in
+    let ts = forEach (λ r. wokenIfLive) (s .slots) (s .queue) (s .tasks) in
     let rs = unqueued (s .queue) (s .slots) in
     rw e
     (ap (dropReservation (s .reservation)) (empties (s .queue) (close s))

@@ -103,7 +103,7 @@ module _ (s : BatchSemaphore) (h : Shaped s) where
 
   pub shows-closed : (gone : Requests) (woken last : Tasks) (w : Waiters) (v : Reservation) → s .closed ≡ false
       → slotsOf gone ≡ unqueued q rs
-      → ShowsTasks woken (s .tasks .count) (forEach wokenIfLive rs q ts)
+      → ShowsTasks woken (s .tasks .count) (forEach (λ r. wokenIfLive) rs q ts)
       → ShowsTasks last (woken .count) (wokenLast (reservationOf (s .reservation)) (slotsOf gone) (tasksOf woken))
       → Holds w [] → reservationOf v ≡ none
       → Shows
@@ -115,14 +115,14 @@ module _ (s : BatchSemaphore) (h : Shaped s) where
         view = parts ∙ sym (closes (view s) o);
       }
     where
-      all : tasksOf last ≡ wokenLast (reservationOf (s .reservation)) (unqueued q rs) (forEach wokenIfLive rs q ts)
+      all : tasksOf last ≡ wokenLast (reservationOf (s .reservation)) (unqueued q rs) (forEach (λ r. wokenIfLive) rs q ts)
       all =
           l .view
           ∙ ap (λ (r : List (Option Request)). wokenLast (reservationOf (s .reservation)) r (tasksOf woken)) e
           ∙ ap (λ (t : List Task). wokenLast (reservationOf (s .reservation)) (unqueued q rs) t) (k .view)
 
       parts : view (record { fairness = s .fairness; closed = true; permits = s .permits; waiters = w; reservation = v; tasks = last; requests = gone })
-          ≡ closedTo (forEach wokenIfLive rs q ts) (unqueued q rs) (view s)
+          ≡ closedTo (forEach (λ r. wokenIfLive) rs q ts) (unqueued q rs) (view s)
       parts =
           λ i.
           record {

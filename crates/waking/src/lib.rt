@@ -8,15 +8,16 @@ ghost use Rattle.rules.specs.Sizes.{maxTasks, slotCount};
 ghost use Rattle.rules.specs.State.{withReservation, _▷_};
 ghost use Rattle.rules.specs.Waking.{wakeUnfair, reblock as reblockOf};
 ghost use Rattle.rules.specs.Steps.{closing};
-ghost use Rattle.task.specs.View.{tasksOf, Shows as ShowsTasks};
+ghost use Rattle.task.specs.View.{taskOf, tasksOf, Shows as ShowsTasks};
 ghost use Rattle.waiters.specs.View.{waitersOf, reservationOf};
 ghost use Rattle.request.specs.View.{requestOf, slotsOf};
 ghost use Rattle.state.specs.View.{view, Shaped, Shows};
-ghost use Rattle.waking.specs.Parts.{stale, awake, halted, wokenIfLive, wokenIfLeast, wokenIfAsked, reblocked, forEach, unqueued, standing, wokenBy, wokenLast};
+ghost use Rattle.waking.specs.Parts.{stale, awake, wokenIfLive, wokenIfLeast, reblocked, forEach, unqueued, standing, wokenIfAsked, wokenBy, wokenLast};
 use request::Request;
 use request::Requests;
 use rules::TaskId;
 use state::BatchSemaphore;
+use task::Task;
 use task::Tasks;
 use waiters::Reservation;
 use waiters::Waiters;
@@ -40,36 +41,24 @@ pub fn unblock_and_wake(tasks: Tasks, t: TaskId) -> Tasks
     tasks.put(t, b)
 }
 
-// The task is blocked.
-fn block(tasks: Tasks, t: TaskId) -> Tasks
-    requires { ⌜ tasks .count ≤ maxTasks ⌝ }
-    ensures { λ r. ⌜ ShowsTasks r (tasks .count) (halted t (tasksOf tasks)) ⌝ }
+// A task unblocked and woken, unless it is finished.
+fn wake_unless_finished(task: Task) -> Task
+    ensures { λ r. ⌜ taskOf r ≡ wokenIfLive (taskOf task) ⌝ }
 {
-    let a = tasks.get(t);
-    let b = a.block();
-    tasks.put(t, b)
-}
-
-// The request's task, if unfinished, is unblocked and woken.
-fn wake_unless_stale(tasks: Tasks, r: Request) -> Tasks
-    requires { ⌜ tasks .count ≤ maxTasks ⌝ }
-    ensures { λ q. ⌜ ShowsTasks q (tasks .count) (wokenIfLive (requestOf r) (tasksOf tasks)) ⌝ }
-{
-    if is_stale(tasks, r) {
-        return tasks;
+    if task.finished() {
+        return task;
     }
-    unblock_and_wake(tasks, r.task)
+    task.unblock().wake()
 }
 
-// The same, if the stock covers the least that the request can go on with.
-fn wake_if_enough(tasks: Tasks, waiter: Request, stock: u32) -> Tasks
-    requires { ⌜ tasks .count ≤ maxTasks ⌝ }
-    ensures { λ q. ⌜ ShowsTasks q (tasks .count) (wokenIfLeast stock (requestOf waiter) (tasksOf tasks)) ⌝ }
+// The same, if the stock covers the least that a request of its can go on with.
+fn wake_if_enough(owner: Task, waiter: Request, stock: u32) -> Task
+    ensures { λ r. ⌜ taskOf r ≡ wokenIfLeast stock (requestOf waiter) (taskOf owner) ⌝ }
 {
     if stock < waiter.ask.least {
-        return tasks;
+        return owner;
     }
-    wake_unless_stale(tasks, waiter)
+    wake_unless_finished(owner)
 }
 
 // The task of the request that has the reservation is unblocked and woken, if the stock covers its ask.
@@ -89,13 +78,19 @@ fn wake_queue(tasks: Tasks, waiters: Waiters, requests: Requests, stock: u32) ->
     ensures { λ r. ⌜ ShowsTasks r (tasks .count) (forEach (wokenIfLeast stock) (slotsOf requests) (waitersOf waiters) (tasksOf tasks)) ⌝ }
 {
     let len = waiters.len;
+    let count = tasks.count;
     let mut woken = tasks;
     let mut i: usize = 0;
     while i < len {
         let x = waiters.at(i);
         let waiter = requests.get(x);
-        woken = wake_if_enough(woken, waiter, stock);
+        let t = waiter.task.0 as usize;
         i += 1;
+        if t < count {
+            let owner = woken.all[t];
+            let woke = wake_if_enough(owner, waiter, stock);
+            woken.all[t] = woke;
+        }
     }
     woken
 }
@@ -165,24 +160,23 @@ fn cannot_progress(waiter: Request, reserved: bool, stock: u32) -> bool
     stock < waiter.ask.least
 }
 
-// A request that cannot go on has its task blocked, unless the task is finished or the acting one.
-fn reblock(tasks: Tasks, waiter: Request, reserved: bool, stock: u32, me: TaskId) -> Tasks
-    requires { ⌜ tasks .count ≤ maxTasks ⌝ }
-    ensures { λ q. ⌜ ShowsTasks q (tasks .count) (reblocked reserved stock me (requestOf waiter) (tasksOf tasks)) ⌝ }
+// A task blocked, if a request of its cannot go on, unless it is finished or the acting one.
+fn reblock(owner: Task, waiter: Request, reserved: bool, stock: u32, me: TaskId) -> Task
+    ensures { λ r. ⌜ taskOf r ≡ reblocked reserved stock me (requestOf waiter) (taskOf owner) ⌝ }
 {
     if !cannot_progress(waiter, reserved, stock) {
-        return tasks;
+        return owner;
     }
-    if is_stale(tasks, waiter) {
-        return tasks;
+    if owner.finished() {
+        return owner;
     }
-    let t = waiter.task;
-    if t.0 == me.0 {
-        return tasks;
+    if waiter.task.0 == me.0 {
+        return owner;
     }
-    block(tasks, t)
+    owner.block()
 }
 
+// The task of every queued request that cannot go on is blocked, unless it is finished or the acting one.
 fn reblock_queue(
     tasks: Tasks,
     waiters: Waiters,
@@ -195,13 +189,19 @@ fn reblock_queue(
     ensures { λ r. ⌜ ShowsTasks r (tasks .count) (forEach (reblocked reserved stock me) (slotsOf requests) (waitersOf waiters) (tasksOf tasks)) ⌝ }
 {
     let len = waiters.len;
+    let count = tasks.count;
     let mut blocked = tasks;
     let mut i: usize = 0;
     while i < len {
         let x = waiters.at(i);
         let waiter = requests.get(x);
-        blocked = reblock(blocked, waiter, reserved, stock, me);
+        let t = waiter.task.0 as usize;
         i += 1;
+        if t < count {
+            let owner = blocked.all[t];
+            let halted = reblock(owner, waiter, reserved, stock, me);
+            blocked.all[t] = halted;
+        }
     }
     blocked
 }
@@ -244,16 +244,22 @@ pub fn cancel_reservation(s: BatchSemaphore) -> BatchSemaphore
 // Every queued request's task, if unfinished, is unblocked and woken.
 fn wake_all(tasks: Tasks, waiters: Waiters, requests: Requests) -> Tasks
     requires { ⌜ (tasks .count ≤ maxTasks) × (waiters .len ≤ slotCount) ⌝ }
-    ensures { λ r. ⌜ ShowsTasks r (tasks .count) (forEach wokenIfLive (slotsOf requests) (waitersOf waiters) (tasksOf tasks)) ⌝ }
+    ensures { λ r. ⌜ ShowsTasks r (tasks .count) (forEach (λ r. wokenIfLive) (slotsOf requests) (waitersOf waiters) (tasksOf tasks)) ⌝ }
 {
     let len = waiters.len;
+    let count = tasks.count;
     let mut woken = tasks;
     let mut i: usize = 0;
     while i < len {
         let x = waiters.at(i);
         let waiter = requests.get(x);
-        woken = wake_unless_stale(woken, waiter);
+        let t = waiter.task.0 as usize;
         i += 1;
+        if t < count {
+            let owner = woken.all[t];
+            let woke = wake_unless_finished(owner);
+            woken.all[t] = woke;
+        }
     }
     woken
 }
@@ -283,7 +289,10 @@ fn wake_last(tasks: Tasks, requests: Requests, reservation: Reservation) -> Task
         return tasks;
     }
     let holder = requests.get(reservation.slot);
-    wake_unless_stale(tasks, holder)
+    if is_stale(tasks, holder) {
+        return tasks;
+    }
+    unblock_and_wake(tasks, holder.task)
 }
 
 // Nobody waits any more: the queue is emptied in order, then the reservation, and who waited is woken. Nothing if closed.
