@@ -1,0 +1,88 @@
+//! Scripts worth keeping whatever the generator does: those that document 01 gives or describes, and
+//! those that show what is easily missed in the Rust. `/` stands for a line feed.
+
+/// Name and script.
+pub const KNOWN: &[(&str, &str)] = &[
+    ("worked", "S 2 0 2/A 0 2/P 0 0/A 1 1/P 1 1/L 0 1/P 1 1/"),
+    ("k1", "S 0 0 2/T 0 1/"),
+    ("k2", "S 3 0 2/T 0 4/T 0 3/"),
+    ("k3", "S 1 0 2/A 0 0/P 0 0/T 0 0/C 0/P 0 0/T 0 0/"),
+    ("k6", "S 0 0 2/U 0 1 2/U 0 1 2/P 0 0/P 0 1/L 0 1/"),
+    ("k7", "S 0 0 2/B 0 3/A 0 1/A 0 2/P 0 0/P 0 1/P 0 2/L 0 2/"),
+    ("k8 and k9", "U 0 0 2/U 0 1 3/P 0 0/L 0 1/T 0 1/L 0 1/P 0 0/"),
+    ("k14", "S 4294967294 0 2/L 0 1/L 0 1/"),
+    ("k15", "S 0 0 2/L 0 1/T 1 1/"),
+    (
+        "a finished task's queued request still holds back",
+        "S 1 0 2/A 1 2/P 1 0/F 1/T 0 1/L 0 1/T 0 1/",
+    ),
+    (
+        "a drop that does not scan, though the front fits",
+        "S 1 0 3/A 1 2/P 1 0/A 2 1/P 2 1/A 0 1/P 0 2/F 1/D 0 2/",
+    ),
+    (
+        "a queued Front polled again does not move, and stays Pending",
+        "S 1 0 2/U 0 1 3/P 0 0/U 0 1 4/P 0 1/P 0 0/P 0 1/L 0 1/P 0 0/V 0 1 3/",
+    ),
+    (
+        "reblock blocks a task whose other request fits, and keeps its woken mark",
+        "U 0 0 2/A 1 1/P 1 0/A 1 2/P 1 1/L 0 2/T 0 1/",
+    ),
+    ("reblock blocks a sleeping task", "U 0 0 2/A 1 2/P 1 0/Z 1/L 0 1/T 0 1/"),
+    (
+        "taking the reservation reblocks one whose least fits; its grant wakes and does not reblock",
+        "U 1 0 3/A 1 2/P 1 0/A 2 9/P 2 1/L 0 1/U 0 1 5/P 0 2/L 0 3/P 0 2/",
+    ),
+    (
+        "a finished task's reservation stands until a release clears it",
+        "U 0 0 3/U 1 1 3/P 1 0/A 2 1/P 2 1/F 1/T 0 1/L 0 1/P 0 0/",
+    ),
+    (
+        "a reservation follows the task that polled it last",
+        "U 0 0 3/U 1 1 3/P 1 0/P 2 0/Z 2/L 0 2/P 0 0/",
+    ),
+    (
+        "dropping a reservation wakes a request of least 0 at stock 0",
+        "U 0 0 3/U 1 1 3/P 1 0/U 2 1 2/P 2 1/Z 2/D 1 0/",
+    ),
+    (
+        "last-acquire gets the request's own clock, and the last poller joins",
+        "S 0 0 3/L 1 1/A 1 2/L 1 1/P 2 0/A 1 2/P 2 1/P 0 1/L 0 2/T 0 1/",
+    ),
+    (
+        "a failed try ticks and a release adds on a closed semaphore",
+        "S 0 0 2/C 0/T 1 1/L 1 2/L 1 0/",
+    ),
+    ("late set-up", "S 2 - 2/T 0 3/L 0 0/A 1 1/P 1 0/L 0 2/"),
+    ("late set-up by a release", "U 2 - 2/L 1 3/T 0 4/"),
+    ("waking reaches the actor", "U 0 0 1/A 0 1/P 0 0/L 0 1/Z 0/Z 0/"),
+    (
+        "a grant not yet polled survives a close",
+        "S 0 0 2/A 1 2/P 1 0/L 0 2/C 0/P 1 0/D 1 0/",
+    ),
+    (
+        "a grant dropped on a closed semaphore releases",
+        "S 0 0 2/A 1 2/P 1 0/L 0 2/C 0/D 0 0/",
+    ),
+    ("taking joins the touched batches alone", "S 3 0 2/T 0 1/T 0 1/T 1 1/"),
+    ("a failed try sets nothing up", "S 1 - 1/T 0 2/"),
+    ("empty", ""),
+    ("only a line feed", "/"),
+    ("refused first line", "S 1 2 2/T 0 1/"),
+    ("bad first line", "S 1 0 2 0/T 0 1/"),
+    ("last line unended", "S 1 0 2/T 0 1"),
+];
+
+/// The text of a known script.
+pub fn text(script: &str) -> String {
+    script.replace('/', "\n")
+}
+
+/// K16: 64 batches, with a grant that lies there and cannot be given back; and 32 slots.
+pub fn k16() -> [String; 2] {
+    let batches = "L 0 1/".repeat(64);
+    [
+        text(&format!("S 0 0 2/A 1 1/P 1 0/L 0 1/{batches}L 0 1/D 0 0/T 0 1/L 0 1/")),
+        text(&format!("S 0 0 1/{}", "A 0 1/".repeat(33))),
+    ]
+}

@@ -1,0 +1,229 @@
+//! Runs steps on the real semaphore and its real requests, and reads the whole state out of them.
+
+use crate::events;
+use crate::future::batch_semaphore::reading::RequestReading;
+use crate::future::batch_semaphore::{Acquire, BatchSemaphore, Fairness, TryAcquireError};
+use crate::observed;
+use crate::refusals::refusal;
+use crate::runtime::execution::ExecutionState;
+use crate::runtime::task::clock::VectorClock;
+use crate::runtime::task::{self, TaskId, TaskState};
+use crate::state::{Clock, Request, Run, State, Task};
+use crate::step::{Act, Answer, Fresh, Outcome, Step, SLOTS};
+use std::future::Future;
+use std::pin::Pin;
+use std::task::{Context, Poll};
+
+pub struct Machine<'a> {
+    semaphore: &'a BatchSemaphore,
+    slots: [Option<Held<'a>>; SLOTS],
+}
+
+/// A request in its slot.
+struct Held<'a> {
+    acquire: Acquire<'a>,
+    /// The Rust remembers no maker; it is the request's task until a Pending poll.
+    maker: usize,
+}
+
+/// Run `body` on a fresh state that document 01 accepts.
+pub fn with_machine<T>(fresh: &Fresh, body: impl FnOnce(&mut Machine<'_>) -> T) -> T {
+    assert!(!fresh.is_refused(), "a refused fresh state is never made");
+    ExecutionState::install(starting_clocks(fresh));
+    let fairness = if fresh.strictly_fair {
+        Fairness::StrictlyFair
+    } else {
+        Fairness::Unfair
+    };
+    let semaphore = match fresh.maker {
+        Some(maker) => {
+            ExecutionState::run_as(TaskId::from(maker as usize));
+            BatchSemaphore::new(fresh.stock as usize, fairness)
+        }
+        None => BatchSemaphore::const_new(fresh.stock as usize, fairness),
+    };
+    events::take();
+    let result = body(&mut Machine {
+        semaphore: &semaphore,
+        slots: [const { None }; SLOTS],
+    });
+    ExecutionState::uninstall();
+    result
+}
+
+fn starting_clocks(fresh: &Fresh) -> Vec<VectorClock> {
+    let tasks = fresh.tasks as usize;
+    match &fresh.clocks {
+        Some(entries) => entries.chunks(tasks).map(VectorClock::from).collect(),
+        None => {
+            let mut zero = VectorClock::new();
+            zero.extend(TaskId::from(tasks - 1));
+            vec![zero; tasks]
+        }
+    }
+}
+
+impl Machine<'_> {
+    /// Take a step, or say by which number it is refused; then nothing has happened.
+    pub fn step(&mut self, step: &Step) -> Result<Outcome, u8> {
+        let before = self.state();
+        if let Some(number) = refusal(&before, step) {
+            return Err(number);
+        }
+        let actor = step.actor as usize;
+        ExecutionState::run_as(TaskId::from(actor));
+        let answer = self.act(actor, step.act);
+        let events = events::take();
+        let after = self.state();
+        Ok(Outcome {
+            answer,
+            grants: observed::grants(&before, step, &events, &after),
+            points: observed::points(&before, step, &events),
+        })
+    }
+
+    fn act(&mut self, actor: usize, act: Act) -> Answer {
+        let semaphore = self.semaphore;
+        match act {
+            Act::Request { asked } => return self.keep(actor, semaphore.acquire(asked as usize)),
+            Act::Bypassable { asked } => return self.keep(actor, semaphore.acquire_bypassable(asked as usize)),
+            Act::Reserving { least, asked } => {
+                return self.keep(actor, semaphore.acquire_reserving(least as usize, asked as usize));
+            }
+            Act::Upgrade { held, wanted } => {
+                return self.keep(actor, semaphore.upgrade(held as usize, wanted as usize));
+            }
+            Act::Poll { slot } => return self.poll(slot as usize),
+            Act::Try { asked } => return answer_of_try(semaphore.try_acquire(asked as usize)),
+            Act::TryUpgrade { held, wanted } => {
+                return answer_of_try(semaphore.try_upgrade(held as usize, wanted as usize));
+            }
+            Act::Release { count } => semaphore.release(count as usize),
+            Act::Drop { slot } => drop(self.slots[slot as usize].take()),
+            Act::Close => semaphore.close(),
+            Act::Sleep => ExecutionState::with(|state| state.current_mut().sleep_unless_woken()),
+            Act::Finish => ExecutionState::with(|state| state.finish_current_task()),
+        }
+        Answer::Done
+    }
+
+    fn poll(&mut self, slot: usize) -> Answer {
+        let held = self.slots[slot].as_mut().expect("a polled slot is in use");
+        let waker = ExecutionState::with(|state| state.current().waker());
+        match Pin::new(&mut held.acquire).poll(&mut Context::from_waker(&waker)) {
+            Poll::Pending => Answer::Pending,
+            Poll::Ready(Ok(())) => Answer::Granted,
+            Poll::Ready(Err(_)) => Answer::Closed,
+        }
+    }
+
+    /// The permits that the semaphore itself says are available.
+    pub fn available(&self) -> usize {
+        self.semaphore.available_permits()
+    }
+
+    /// Whether the semaphore itself says that it is closed.
+    pub fn is_closed(&self) -> bool {
+        self.semaphore.is_closed()
+    }
+
+    pub fn state(&self) -> State {
+        let tasks: Vec<Task> = ExecutionState::with(|state| state.tasks().iter().map(task_reading).collect());
+        let wide = |clock: &VectorClock| widened(clock, tasks.len());
+        let batch = |(size, clock): &(usize, VectorClock)| (*size, wide(clock));
+
+        let semaphore = self.semaphore.reading();
+        let reading = |slot: &Option<Held<'_>>| slot.as_ref().map(|held| held.acquire.reading());
+        let requests: Vec<Option<RequestReading>> = self.slots.iter().map(reading).collect();
+        let slot_of = |waiter| {
+            let is_it = |request: &Option<RequestReading>| request.as_ref().is_some_and(|r| r.waiter == Some(waiter));
+            requests
+                .iter()
+                .position(is_it)
+                .expect("a waiter belongs to a slot in use")
+        };
+        State {
+            strictly_fair: semaphore.strictly_fair,
+            closed: semaphore.closed,
+            stock: semaphore.stock,
+            batches: semaphore.batches.map(|all| all.iter().map(batch).collect()),
+            last_acquire: wide(&semaphore.last_acquire),
+            queue: semaphore.queue.into_iter().map(slot_of).collect(),
+            reserved: semaphore.reservation.map(slot_of),
+            slots: self
+                .slots
+                .iter()
+                .zip(&requests)
+                .map(|(slot, reading)| Some(request(slot.as_ref()?.maker, reading.as_ref()?, tasks.len())))
+                .collect(),
+            tasks,
+        }
+    }
+}
+
+impl<'a> Machine<'a> {
+    /// A new request takes the lowest free slot.
+    fn keep(&mut self, maker: usize, acquire: Acquire<'a>) -> Answer {
+        let slot = self.slots.iter().position(Option::is_none).expect("a slot is free");
+        self.slots[slot] = Some(Held { acquire, maker });
+        Answer::Slot(slot)
+    }
+}
+
+/// The end of a script is no step: what is left is forgotten, so that no request is dropped.
+impl Drop for Machine<'_> {
+    fn drop(&mut self) {
+        for slot in &mut self.slots {
+            std::mem::forget(slot.take());
+        }
+    }
+}
+
+/// A task as the stand-ins have it.
+pub fn task_reading(task: &task::Task) -> Task {
+    Task {
+        run: match task.state() {
+            TaskState::Runnable => Run::Runnable,
+            TaskState::Blocked { .. } => Run::Blocked,
+            TaskState::Sleeping => Run::Sleeping,
+            TaskState::Finished => Run::Finished,
+        },
+        woken: task.woken(),
+        clock: task.clock.to_vec(),
+    }
+}
+
+/// A request as the Rust has it, with its maker, whom the Rust forgets.
+fn request(maker: usize, reading: &RequestReading, tasks: usize) -> Request {
+    Request {
+        asked: reading.asked,
+        least: reading.least,
+        kind: reading.kind,
+        reserving: reading.reserving,
+        clock: widened(&reading.clock, tasks),
+        task: reading.waiting_task.map_or(maker, usize::from),
+        queued: reading.queued,
+        holding: reading.holding,
+        completed: reading.completed,
+        polled: reading.polled,
+    }
+}
+
+/// The Rust's clocks grow when they meet longer ones; the rules' are all as wide as there are tasks.
+fn widened(clock: &VectorClock, tasks: usize) -> Clock {
+    assert!(
+        clock.len() <= tasks,
+        "no clock has an entry for a task that is not there"
+    );
+    let mut entries = clock.to_vec();
+    entries.resize(tasks, 0);
+    entries
+}
+
+fn answer_of_try(result: Result<(), TryAcquireError>) -> Answer {
+    match result {
+        Ok(()) => Answer::Granted,
+        Err(TryAcquireError::Closed) => Answer::Closed,
+        Err(TryAcquireError::NoPermits) => Answer::NoPermits,
+    }
+}

@@ -1,0 +1,151 @@
+//! The command line.
+
+use oracle::generator::{self, Wish};
+use oracle::semtrace::{run_watched, Options};
+use oracle::{fault, sample, soak};
+use std::io::{self, Read, Write};
+use std::panic::{self, AssertUnwindSafe};
+use std::path::Path;
+use std::process::ExitCode;
+
+const USAGE: &str = "\
+usage:
+  oracle [--state] [--count] [--clocks] < SCRIPT
+  oracle gen --seed N --lines L [--clocks]
+  oracle soak --seed N --scripts K --lines L [--clocks]
+  oracle sample DIRECTORY
+  oracle check DIRECTORY";
+
+/// The exit codes: what was compared differs, wrong use, and the Rust panicked on an accepted step.
+const DIFFERENT: u8 = 1;
+const WRONG_USE: u8 = 2;
+const PANICKED: u8 = 3;
+
+fn main() -> ExitCode {
+    let arguments: Vec<String> = std::env::args().skip(1).collect();
+    let mut words = arguments.iter().map(String::as_str).peekable();
+    let command = words.next_if(|word| !word.starts_with("--"));
+    let done = match command {
+        None => Flags::read(words).and_then(|flags| run_script(&flags)),
+        Some("gen") => unless_faulty().and_then(|()| generate(&Flags::read(words)?)),
+        Some("soak") => unless_faulty().and_then(|()| run_soak(&Flags::read(words)?)),
+        Some("sample") => unless_faulty().and_then(|()| write_sample(words.next().ok_or(USAGE)?)),
+        Some("check") => words.next().ok_or(USAGE.to_string()).and_then(check_sample),
+        Some(_) => Err(USAGE.to_string()),
+    };
+    done.unwrap_or_else(|message| {
+        eprintln!("{message}");
+        ExitCode::from(WRONG_USE)
+    })
+}
+
+#[derive(Default)]
+struct Flags {
+    state: bool,
+    count: bool,
+    clocks: bool,
+    seed: u64,
+    scripts: u64,
+    lines: usize,
+}
+
+impl Flags {
+    fn read<'a>(mut words: impl Iterator<Item = &'a str>) -> Result<Self, String> {
+        let mut flags = Self::default();
+        while let Some(word) = words.next() {
+            let mut number = || words.next().and_then(|n| n.parse().ok()).ok_or(USAGE);
+            match word {
+                "--state" => flags.state = true,
+                "--count" => flags.count = true,
+                "--clocks" => flags.clocks = true,
+                "--seed" => flags.seed = number()?,
+                "--scripts" => flags.scripts = number()?,
+                "--lines" => flags.lines = number()? as usize,
+                _ => return Err(USAGE.to_string()),
+            }
+        }
+        Ok(flags)
+    }
+
+    fn wish(&self) -> Wish {
+        Wish {
+            seed: self.seed,
+            lines: self.lines,
+            clocks: self.clocks,
+        }
+    }
+}
+
+/// Nothing may be generated or recorded by a build with a deliberate fault.
+fn unless_faulty() -> Result<(), String> {
+    match fault() {
+        Some(name) => Err(format!("FAULT {name}: this build carries a deliberate fault")),
+        None => Ok(()),
+    }
+}
+
+fn run_script(flags: &Flags) -> Result<ExitCode, String> {
+    let mut script = Vec::new();
+    io::stdin().read_to_end(&mut script).map_err(|e| e.to_string())?;
+    let mut output = String::new();
+    if let Some(name) = fault() {
+        output += &format!("FAULT {name}: this build carries a deliberate fault\n");
+    }
+    let options = Options {
+        state: flags.state,
+        clocks: flags.clocks,
+    };
+    let ran = panic::catch_unwind(AssertUnwindSafe(|| {
+        run_watched(&mut output, &script, options, &mut |_| ())
+    }));
+    io::stdout().write_all(output.as_bytes()).map_err(|e| e.to_string())?;
+    let Ok(count) = ran else {
+        let answered = output.lines().filter(|line| !line.starts_with(' ')).count();
+        eprintln!("the Rust panicked on an accepted step, after {answered} lines of output that answer a line");
+        return Ok(ExitCode::from(PANICKED));
+    };
+    if flags.count {
+        eprintln!("left out {} of {} steps", count.left_out, count.steps);
+    }
+    Ok(ExitCode::SUCCESS)
+}
+
+fn generate(flags: &Flags) -> Result<ExitCode, String> {
+    print!("{}", generator::script(flags.wish()));
+    Ok(ExitCode::SUCCESS)
+}
+
+fn run_soak(flags: &Flags) -> Result<ExitCode, String> {
+    let soaked = soak::soak(flags.wish(), flags.scripts);
+    for (name, count) in soaked.tally.counts() {
+        println!("{count:8}  {name}");
+    }
+    let count = soaked.count;
+    println!(
+        "left out {} of {} steps; no panic, no broken state",
+        count.left_out, count.steps
+    );
+    Ok(ExitCode::SUCCESS)
+}
+
+fn write_sample(directory: &str) -> Result<ExitCode, String> {
+    let scripts = sample::write(Path::new(directory)).map_err(|e| e.to_string())?;
+    println!("wrote {scripts} scripts and their states");
+    Ok(ExitCode::SUCCESS)
+}
+
+fn check_sample(directory: &str) -> Result<ExitCode, String> {
+    panic::set_hook(Box::new(|_| ())); // a panic counts as a difference, and is not told each time
+    let checked = sample::check(Path::new(directory)).map_err(|e| e.to_string())?;
+    if let Some(name) = fault() {
+        println!("FAULT {name}: this build carries a deliberate fault");
+    }
+    println!("{} of {} scripts differ", checked.different.len(), checked.scripts);
+    if !checked.different.is_empty() {
+        println!("{}", checked.different.join(" "));
+    }
+    Ok(match checked.different.len() {
+        0 => ExitCode::SUCCESS,
+        _ => ExitCode::from(DIFFERENT),
+    })
+}

@@ -1,0 +1,3 @@
+pub mod execution;
+pub mod task;
+pub mod thread;

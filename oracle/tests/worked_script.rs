@@ -1,0 +1,63 @@
+//! Document 01's worked script, whole.
+
+use oracle::semtrace::{run, Options};
+
+#[test]
+fn prints_what_document_01_says() {
+    let script = "S 2 0 2\nA 0 2\nP 0 0\nA 1 1\nP 1 1\nL 0 1\nP 1 1\n";
+    let expected = "\
+done 2 2 0 0 -
+s0 2 2 0 0 -
+granted 0 0 0 0 0
+s1 0 0 0 0 -
+pending 0 0 0 1 -
+done 0 0 0 0 1
+granted 0 0 0 0 -
+";
+    assert_eq!(run(script.as_bytes(), Options::default()).0, expected);
+}
+
+#[test]
+fn prints_the_whole_state_after_each_accepted_line() {
+    let script = "S 2 0 2\nT 0 1\nT 9 1\nL 1 1\n";
+    let expected = "\
+done 2 2 0 0 -
+ point -
+ grants -
+ sem S 0 2
+ batches 2@0,0
+ last 0,0
+ queue -
+ reserved -
+ task 0 R 0 0,0
+ task 1 R 0 0,0
+granted 1 1 0 0 t
+ point 1
+ grants t:1:0
+ sem S 0 1
+ batches 1@0,0
+ last 0,0
+ queue -
+ reserved -
+ task 0 R 0 1,0
+ task 1 R 0 0,0
+r1 1 1 0 0 -
+done 2 2 0 0 -
+ point 1
+ grants -
+ sem S 0 2
+ batches 1@0,0 1@0,1
+ last 0,0
+ queue -
+ reserved -
+ task 0 R 0 1,0
+ task 1 R 0 0,1
+";
+    let options = Options {
+        state: true,
+        ..Options::default()
+    };
+    let (printed, count) = run(script.as_bytes(), options);
+    assert_eq!(printed, expected);
+    assert_eq!((count.left_out, count.steps), (1, 3));
+}
