@@ -14,7 +14,7 @@ use Rattle.rules.specs.Request.{Request as RequestRule}
 use Rattle.task.specs.declared.Task.{Task}
 use Rattle.task.specs.declared.Tasks.{Tasks}
 use Rattle.task.specs.View.{taskOf, tasksOf, Shows}
-use Rattle.task.proofs.Places.{read-at, store-past, store-at}
+use Rattle.rules.proofs.Places.{read-at, store-past, store-at}
 use Rattle.waiters.specs.View.{slot0}
 use Rattle.request.specs.declared.Request.{Request}
 use Rattle.request.specs.View.{requestOf, Stands}
