@@ -9,8 +9,10 @@ use queueing::Granting;
 use replies::Check;
 use replies::Refusal;
 use replies::Reply;
+use rules::Act;
 use rules::Priority;
 use rules::Slot;
+use rules::Step;
 use rules::TaskId;
 use state::BatchSemaphore;
 
@@ -229,4 +231,26 @@ pub fn finish(s: BatchSemaphore, me: TaskId) -> Stepped
         return refuse(s, check);
     }
     outcomes::quiet(Reply::Done, making::finish(s, me))
+}
+
+// Any step, as a value: for whoever runs lists of steps.
+pub fn step(s: BatchSemaphore, a: Step) -> Stepped
+    ensures { λ r. ⌜ Steps s a r ⌝ }
+{
+    let me = a.actor;
+    let act = a.act;
+    match act {
+        Act::Acquire(n) => acquire(s, me, n),
+        Act::AcquireBypassable(n) => acquire_bypassable(s, me, n),
+        Act::AcquireReserving { least, asked } => acquire_reserving(s, me, least, asked),
+        Act::Upgrade { held, wanted } => upgrade(s, me, held, wanted),
+        Act::Poll(x) => poll(s, me, x),
+        Act::Try(n) => try_acquire(s, me, n),
+        Act::TryUpgrade { held, wanted } => try_upgrade(s, me, held, wanted),
+        Act::Release(n) => release(s, me, n),
+        Act::Drop(x) => drop(s, me, x),
+        Act::Close => close(s, me),
+        Act::Sleep => sleep(s, me),
+        Act::Finish => finish(s, me),
+    }
 }
