@@ -10,8 +10,10 @@ use Rattle.rules.specs.declared.Question.{Question}
 use Rattle.rules.specs.declared.Slot.{Slot}
 use Rattle.rules.specs.declared.Grant.{Grant}
 use Rattle.rules.specs.declared.Verdict.the-variants.{Ends}
-use Rattle.rules.specs.State.{State, reserved, available}
+use Rattle.rules.specs.Clock.{join}
+use Rattle.rules.specs.State.{State, reserved, available, taskAt}
 use Rattle.rules.specs.Fresh.{Start, refusedFresh, refuses12}
+use Rattle.rules.specs.Taking.{taking, takeAs}
 use Rattle.rules.specs.Scan.{Granting, verdict, walk}
 use Rattle.rules.specs.Steps.{quiet}
 use Rattle.rules.specs.Steps.Answer.{refused}
@@ -41,3 +43,8 @@ question-changes-nothing t q s = refl
 pub scan-ends : (x : Slot) (q : List Slot) (s : State) (gs : List Grant) → verdict x s ≡ Ends → walk (x ∷ q) s gs ≡ record { grants = gs; state = s }
 unfolding walk
 scan-ends x q s gs e = rw e
+
+-- A taking joins the taker's clock into last-acquire as it was before the tick.
+pub taken-last : (t : TaskId) (n : ℕ) (s : State) → takeAs t n s .permits .last ≡ join (s .permits .last) (taskAt t s .clock)
+unfolding takeAs taking
+taken-last t n s = refl
