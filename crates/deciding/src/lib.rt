@@ -120,6 +120,7 @@ fn poll_plain(s: BatchSemaphore, r: Request) -> Polling
     by_direct(d, r)
 }
 
+// Both of two tests, as one value.
 pub fn both(a: bool, b: bool) -> bool
     ensures { λ r. ⌜ r ≡ (a && b) ⌝ }
 {

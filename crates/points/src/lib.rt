@@ -42,7 +42,8 @@ fn before_poll(s: BatchSemaphore, x: Slot) -> bool
     if s.closed {
         return true;
     }
-    r.ask.least <= s.available_permits()
+    let available = s.available_permits();
+    r.ask.least <= available
 }
 
 // A drop's first question: queued or having the reservation.
