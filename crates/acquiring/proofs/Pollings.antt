@@ -1,6 +1,5 @@
 -- A poll put together: its answer, its grant, its work and its marks.
-use Prim.Native.Nat.{ℕ}
-use mathlib.Core.Path.{_≡_, refl, sym, ap, subst, _∙_}
+use mathlib.Core.Path.{_≡_, sym, ap, _∙_}
 use mathlib.Core.Bool.{Bool, true, false, not}
 use mathlib.Core.List.{List, [], _∷_}
 use mathlib.Core.Option.{Option, none}
@@ -8,7 +7,6 @@ use borrow.Author.Tests.{not-true, not-false}
 use lib.ListN.{getD}
 use Rattle.rules.specs.declared.TaskId.{TaskId}
 use Rattle.rules.specs.declared.Slot.{Slot}
-use Rattle.rules.specs.declared.Grant.{Grant}
 use Rattle.rules.specs.declared.Taker.the-variants.{BySlot}
 use Rattle.rules.specs.declared.Polling.{Polling}
 use Rattle.rules.specs.declared.Polled.{Polled}
@@ -22,7 +20,7 @@ use Rattle.request.specs.declared.Request.{Request}
 use Rattle.request.specs.View.{slotsOf, Stands}
 use Rattle.replies.specs.Answers.{answerOf}
 use Rattle.state.specs.declared.BatchSemaphore.{BatchSemaphore}
-use Rattle.state.specs.View.{view, Shaped, Shows}
+use Rattle.state.specs.View.{view, Shows}
 use Rattle.outcomes.specs.declared.Stepped.{Stepped}
 use Rattle.outcomes.specs.View.{Shown}
 use Rattle.acquiring.specs.Polls.{takenBy}

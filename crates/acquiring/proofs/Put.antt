@@ -1,7 +1,5 @@
 -- A failed try put together; a try's outcome; what a poll's decision needs, from what it says.
-use Prim.Native.Nat.{ℕ, _≤_, _<_}
-use mathlib.Core.Path.{_≡_, refl, sym, ap, _∙_}
-use mathlib.Core.List.{List}
+use mathlib.Core.Path.{_≡_, ap, _∙_}
 use lib.ListN.{getD, set}
 use Rattle.rules.specs.declared.TaskId.{TaskId}
 use Rattle.rules.specs.Task.{Task as TaskRule, noTask, ticked, joined}
@@ -9,7 +7,6 @@ use Rattle.rules.specs.Steps.{failTry}
 use Rattle.task.specs.declared.Task.{Task}
 use Rattle.task.specs.declared.Tasks.{Tasks}
 use Rattle.task.specs.View.{taskOf, tasksOf, Shows as ShowsTasks}
-use Rattle.clock.specs.declared.VectorClock.{VectorClock}
 use Rattle.state.specs.declared.BatchSemaphore.{BatchSemaphore}
 use Rattle.state.specs.View.{view, Shaped, Shows}
 use Rattle.state.proofs.Storing.{tasks-stored}

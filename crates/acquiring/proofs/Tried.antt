@@ -1,8 +1,7 @@
 -- The outcome of a try, and the state after a poll's work, by the decision.
 use Prim.Native.Nat.{ℕ, _≤_, _<_}
-use mathlib.Core.Path.{_≡_, refl, sym, ap, subst, _∙_}
-use mathlib.Core.Bool.{Bool, true, false, cond}
-use mathlib.Core.List.{List, [], _∷_}
+use mathlib.Core.Path.{_≡_, sym, ap, subst, _∙_}
+use mathlib.Core.Bool.{true}
 use mathlib.Core.Option.{none, some}
 use lib.ListN.{length}
 use Rattle.rules.specs.declared.TaskId.{TaskId}
@@ -18,14 +17,14 @@ use Rattle.rules.specs.Taking.{takeAs}
 use Rattle.rules.specs.Scan.{leave, queueBack, queueFront}
 use Rattle.rules.specs.Waking.{wakeUnfair, reblock}
 use Rattle.rules.specs.Polling.{takesIn, pollWork}
-use Rattle.rules.specs.Steps.{Outcome, quiet, failTry, tryBy}
+use Rattle.rules.specs.Steps.{quiet, failTry, tryBy}
 use Rattle.taking.specs.Parts.{MayTick}
 use Rattle.replies.specs.declared.Reply.{Reply}
 use Rattle.replies.specs.declared.Reply.the-variants.{Closed, NoPermits as NoneLeft}
 use Rattle.replies.specs.Answers.{answerOf}
 use Rattle.state.specs.declared.BatchSemaphore.{BatchSemaphore}
 use Rattle.state.specs.View.{view, Shaped, Shows}
-use Rattle.state.proofs.Storing.{shows-itself, shows-then}
+use Rattle.state.proofs.Storing.{shows-itself}
 use Rattle.outcomes.specs.declared.Stepped.{Stepped}
 use Rattle.outcomes.specs.View.{Shown, Quiet}
 use Rattle.acquiring.specs.Polls.{MayDo, queuesIn, GrantedTry}

@@ -1,5 +1,4 @@
 // The grants of a step, in order: at most one for each slot.
-ghost use mathlib.Core.Path.{_≡_};
 ghost use mathlib.Core.List.{[], _∷_, _++_};
 ghost use Prim.Native.Nat.{_+_, _<_};
 ghost use Rattle.rules.specs.Sizes.{slotCount};

@@ -2,10 +2,9 @@
 use Prim.Native.Nat.{ℕ}
 use mathlib.Core.Path.{_≡_, refl, ap, _∙_}
 use mathlib.Core.Bool.{false}
-use mathlib.Core.List.{List, [], _∷_, map}
+use mathlib.Core.List.{List, [], _∷_}
 use mathlib.Core.Option.{Option, none, some}
 use Rattle.rules.specs.declared.Step.{Step}
-use Rattle.rules.specs.State.{State}
 use Rattle.rules.specs.Steps.{Outcome}
 use Rattle.rules.specs.Refusals.{refusal}
 use Rattle.rules.specs.Runs.{Said, unless, step, run}

@@ -1,7 +1,6 @@
 -- Document 01's word and number for each reply.
 use Prim.Native.Nat.{ℕ}
 use mathlib.Core.Option.{Option, none, some}
-use Rattle.rules.specs.declared.Slot.{Slot}
 use Rattle.rules.specs.Steps.{Answer}
 use Rattle.rules.specs.Steps.Answer.{done, granted, pending, closed, none-left, made, refused}
 use Rattle.replies.specs.declared.Refusal.{Refusal}

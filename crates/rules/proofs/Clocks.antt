@@ -2,8 +2,8 @@
 use Prim.Native.Nat.{ℕ, suc, _≤_, max}
 use native.Mathlib.Nat.{max-comm, max-eq-left, le-max-left, le-max-right, max-le, le-refl, le-trans, le-antisymm, suc-inj}
 use native.Mathlib.Omega.{arith}
-use mathlib.Core.Path.{_≡_, refl, ap, _∙_}
-use mathlib.Core.List.{List, [], _∷_}
+use mathlib.Core.Path.{_≡_, refl, ap}
+use mathlib.Core.List.{[], _∷_}
 use lib.ListN.{length, length-set, length-replicate}
 use Rattle.rules.specs.Clock.{Clock, join, tick, empty}
 

@@ -1,9 +1,9 @@
 -- Laws that a wrong definition of a step, of available or of a question would fail.
 use Prim.Native.Nat.{ℕ}
-use mathlib.Core.Path.{_≡_, refl, ap, sym, _∙_}
-use mathlib.Core.Bool.{Bool, true, false}
-use mathlib.Core.List.{List, [], _∷_}
-use mathlib.Core.Option.{Option, none, some}
+use mathlib.Core.Path.{_≡_, refl}
+use mathlib.Core.Bool.{true}
+use mathlib.Core.List.{List, _∷_}
+use mathlib.Core.Option.{some}
 use Rattle.rules.specs.declared.TaskId.{TaskId}
 use Rattle.rules.specs.declared.Step.{Step}
 use Rattle.rules.specs.declared.Question.{Question}
@@ -14,7 +14,7 @@ use Rattle.rules.specs.Clock.{join}
 use Rattle.rules.specs.State.{State, reserved, available, taskAt}
 use Rattle.rules.specs.Fresh.{Start, refusedFresh, refuses12}
 use Rattle.rules.specs.Taking.{taking, takeAs}
-use Rattle.rules.specs.Scan.{Granting, verdict, walk}
+use Rattle.rules.specs.Scan.{verdict, walk}
 use Rattle.rules.specs.Steps.{quiet}
 use Rattle.rules.specs.Steps.Answer.{refused}
 use Rattle.rules.specs.Refusals.{refusal}

@@ -1,7 +1,6 @@
 -- Document 01, "Runs to prove and to try": the starred ones, as one list with one proof. Two tasks, zero clocks, `new`, made by task 0.
 use Prim.Native.Nat.{ℕ}
 use mathlib.Core.Path.{_≡_, refl}
-use mathlib.Core.Bool.{Bool, true, false}
 use mathlib.Core.List.{List, [], _∷_, _++_, map}
 use mathlib.Core.Option.{Option, none, some}
 use lib.ListN.{take, replicate}
@@ -15,7 +14,7 @@ use Rattle.rules.specs.declared.Fairness.{Fairness}
 use Rattle.rules.specs.declared.Fairness.the-variants.{StrictlyFair, Unfair}
 use Rattle.rules.specs.Clock.{Clock, join, tick, empty}
 use Rattle.rules.specs.Task.{Task}
-use Rattle.rules.specs.State.{State, stock, available}
+use Rattle.rules.specs.State.{stock, available}
 use Rattle.rules.specs.Fresh.{Start, firstBatch, freshTasks, freshBatches, fresh, refuses12}
 use Rattle.rules.specs.Taking.{standingOf, standing, eat, taking, takeAs, takeQueued, adding, allBypassable, direct}
 use Rattle.rules.specs.Scan.{without, verdict, grantQueued, walk, scan}
@@ -25,7 +24,7 @@ use Rattle.rules.specs.Steps.{_does_, Answer, lowestFree, make, tryBy, p
 use Rattle.rules.specs.declared.Act.the-variants.{Acquire, AcquireBypassable, Upgrade, Poll, Try, Release, Close}
 use Rattle.rules.specs.Steps.Answer.{done, granted, pending, closed, none-left, made, refused}
 use Rattle.rules.specs.Refusals.{grounds, refusal}
-use Rattle.rules.specs.Runs.{Said, Run, step, start, run}
+use Rattle.rules.specs.Runs.{Said, step, start, run}
 
 pub record Case : Type 0 where
   pub fairness : Fairness

@@ -1,14 +1,14 @@
 -- Document 01, "Replies by number", row 14: what is broken in a state handed in. (A struct is broken besides where a count of it
 -- passes the size of its array, so that it stands for no state.)
 use Prim.Native.Nat.{ℕ, zero, suc, _+_}
-use mathlib.Core.Bool.{Bool, true, false, cond, not, _&&_, _||_, Bool·beq}
-use mathlib.Core.List.{List, [], _∷_, map}
+use mathlib.Core.Bool.{Bool, true, false, not, _&&_, _||_, Bool·beq}
+use mathlib.Core.List.{List, [], _∷_}
 use mathlib.Core.Option.{Option, none, some}
 use lib.Dec.{leb, ltb, eqb}
 use lib.ListN.{length}
 use Rattle.rules.specs.declared.Slot.{Slot}
 use Rattle.rules.specs.Sizes.{maxTasks, slotCount, batchCount}
-use Rattle.rules.specs.State.{Batch, State, strict, stock, isSome, reserved, sameSlot, inUse, requestAt, askedAt, leastAt, taskOf}
+use Rattle.rules.specs.State.{Batch, State, strict, stock, reserved, sameSlot, inUse, requestAt, askedAt, leastAt, taskOf}
 use Rattle.rules.specs.Refusals.{badReserving}
 
 -- whether some element meets a test

@@ -1,8 +1,7 @@
 -- Document 01, "Steps": what a poll does, by cases; the effect of each case; and the marks that a poll leaves.
-use Prim.Native.Nat.{ℕ}
 use mathlib.Core.Bool.{Bool, true, false, cond, _&&_, _||_}
 use mathlib.Core.List.{List, [], _∷_}
-use mathlib.Core.Option.{Option, none, some}
+use mathlib.Core.Option.{none, some}
 use lib.Dec.{leb, ltb}
 use Rattle.rules.specs.declared.TaskId.{TaskId}
 use Rattle.rules.specs.declared.Slot.{Slot}
@@ -17,7 +16,7 @@ use Rattle.rules.specs.declared.Polling.the-variants.{Holds, IsClosed, S
 use Rattle.rules.specs.declared.Polled.{Polled}
 use Rattle.rules.specs.declared.Polled.the-variants.{Granted, Closed, Pending}
 use Rattle.rules.specs.Request.{Request, polledGranted, polledClosed, polledPending}
-use Rattle.rules.specs.State.{State, strict, stock, reserved, hasReservation, requestAt, askedAt, withReservation, alterRequest, _▷_}
+use Rattle.rules.specs.State.{State, strict, stock, reserved, hasReservation, requestAt, askedAt, withReservation, _▷_}
 use Rattle.rules.specs.Taking.{takeAs, direct}
 use Rattle.rules.specs.Scan.{queueBack, queueFront, leave}
 use Rattle.rules.specs.Waking.{wakeUnfair, reblock}

@@ -1,7 +1,7 @@
 -- One step with its refusal; a start with its refusal; and any list of steps.
 use Prim.Native.Nat.{ℕ}
-use mathlib.Core.Bool.{Bool, true, false, cond}
-use mathlib.Core.List.{List, [], _∷_, _++_}
+use mathlib.Core.Bool.{cond}
+use mathlib.Core.List.{List, [], _∷_}
 use mathlib.Core.Option.{Option, none, some}
 use Rattle.rules.specs.State.{State}
 use Rattle.rules.specs.Fresh.{Start, fresh, refusedFresh, refuses12}

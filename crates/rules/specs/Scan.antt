@@ -1,6 +1,5 @@
 -- Document 01, "Steps": the queue and its scan.
-use Prim.Native.Nat.{ℕ}
-use mathlib.Core.Bool.{Bool, true, false, cond}
+use mathlib.Core.Bool.{true, false, cond}
 use mathlib.Core.List.{List, [], _∷_, _++_}
 use lib.Dec.{leb}
 use Rattle.rules.specs.declared.Slot.{Slot}

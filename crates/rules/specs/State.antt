@@ -1,7 +1,7 @@
 -- Document 01, "State": what the semaphore is, and how its parts are read and changed.
 use Prim.Native.Nat.{ℕ}
 use mathlib.Core.Bool.{Bool, true, false, cond}
-use mathlib.Core.List.{List, [], _∷_}
+use mathlib.Core.List.{List}
 use mathlib.Core.Option.{Option, none, some, Option·getD, Option·map}
 use lib.Dec.{eqb}
 use lib.ListN.{getD, set}

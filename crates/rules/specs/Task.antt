@@ -1,5 +1,4 @@
 -- Document 01, "State": a task is Runnable, Blocked, Sleeping or Finished, with a woken mark and a clock.
-use Prim.Native.Nat.{ℕ}
 use mathlib.Core.Bool.{Bool, true, false, cond}
 use Rattle.rules.specs.declared.TaskId.{TaskId}
 use Rattle.rules.specs.declared.TaskState.{TaskState}

@@ -1,13 +1,12 @@
 -- Document 01, "Steps": waking the unfair, and reblocking.
-use Prim.Native.Nat.{ℕ}
-use mathlib.Core.Bool.{Bool, true, false, cond, not, _&&_, _||_}
+use mathlib.Core.Bool.{Bool, cond, not, _&&_, _||_}
 use mathlib.Core.List.{List, [], _∷_}
 use mathlib.Core.Option.{Option, none, some}
 use lib.Dec.{leb, ltb, eqb}
 use Rattle.rules.specs.declared.TaskId.{TaskId}
 use Rattle.rules.specs.declared.Slot.{Slot}
 use Rattle.rules.specs.Task.{blocked}
-use Rattle.rules.specs.State.{State, strict, stock, reserved, askedAt, leastAt, taskOf, ownerFinished, withReservation, alterTask, unblockAndWake, _▷_}
+use Rattle.rules.specs.State.{State, strict, stock, reserved, askedAt, leastAt, taskOf, ownerFinished, withReservation, alterTask, unblockAndWake}
 
 abbrev pub clearedIf : Option Slot → State → State
 clearedIf none s = s

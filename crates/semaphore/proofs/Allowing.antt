@@ -1,7 +1,7 @@
 -- What each step's effect needs, from its not being refused.
 use Prim.Native.Nat.{ℕ, _≤_, _<_, _-_}
-use mathlib.Core.Path.{_≡_, refl, sym, ap, subst, _∙_}
-use mathlib.Core.Bool.{Bool, true, false, true≢false, false≢true}
+use mathlib.Core.Path.{_≡_, sym, subst, _∙_}
+use mathlib.Core.Bool.{true, false, false≢true}
 use mathlib.Core.Option.{none}
 use lib.ListN.{length}
 use Rattle.rules.specs.declared.TaskId.{TaskId}
@@ -18,13 +18,12 @@ use Rattle.rules.specs.Taking.{direct}
 use Rattle.rules.specs.Polling.{polling, takesIn}
 use Rattle.rules.specs.Steps.{_does_}
 use Rattle.rules.specs.Refusals.{refusal}
-use Rattle.rules.specs.Broken.{member}
 use Rattle.rules.specs.Sound.{Sound}
 use Rattle.rules.proofs.Slots.{used-below}
 use Rattle.rules.proofs.KeepsQueue.{queue-room}
 use Rattle.rules.proofs.KeepsSteps.{take-fits}
 use Rattle.rules.proofs.Decisions.{PollSays, poll-says}
-use Rattle.rules.proofs.Accepting.{Accepted, accepted, Pollable}
+use Rattle.rules.proofs.Accepting.{Accepted, accepted}
 use Rattle.taking.specs.Parts.{MayTick}
 use Rattle.acquiring.specs.Polls.{MayDo, queuesIn}
 

@@ -5,7 +5,6 @@ use mathlib.Core.Path.{_≡_, refl, sym, ap, _∙_}
 use mathlib.Core.Bool.{Bool, true, false}
 use mathlib.Core.Option.{Option, none, some}
 use Rattle.rules.specs.declared.Step.{Step}
-use Rattle.rules.specs.Steps.{Outcome}
 use Rattle.rules.specs.Refusals.{refusal}
 use Rattle.state.specs.declared.BatchSemaphore.{BatchSemaphore}
 use Rattle.state.specs.View.{view}

@@ -1,5 +1,4 @@
 use mathlib.Core.Path.{refl}
-use borrow.Author.Needs.{needs}
 use Rattle.grants.specs.View.{grantsOf}
 use Rattle.grants.proofs.Grants.none.Statement.{statement}
 use Rattle.grants.proofs.Grants.none.Tie as tie
