@@ -1,11 +1,12 @@
 -- The takers of grants: the first, and each other behind a comma.
-use Prim.Native.Nat.{ℕ, _+_, _*_, _-_, _≤_, _<_}
+use Prim.Native.Nat.{ℕ, _+_, _*_, _-_, _≤_, _<_, min}
+use native.Mathlib.Decide.{decLe}
 use native.Mathlib.Numerals.{add-one}
 use native.Mathlib.Omega.{arith}
 use mathlib.Core.Path.{_≡_, refl, ap, sym, _∙_}
 use mathlib.Core.List.{List, [], _∷_, _++_, append-assoc, append-nil}
 use lib.ListN.{length, getD, take, drop}
-use lib.Seq.{take-suc, drop-append-le, length-take-le, getD-take}
+use lib.Seq.{take-suc, take-all, drop-append-le, length-take-le, getD-take}
 use Rattle.rules.specs.declared.Grant.{Grant}
 use Rattle.rules.specs.Text.{comma, joinedBy}
 use Rattle.rules.specs.Script.{takerText, grantsText}
@@ -60,14 +61,24 @@ takers-printed old mid new at p r n gs d room z l h w v =
     rw (takers-first (take n gs) d m, getD-take n gs 0 d z) (printed-then 3 124 (omega arith) w v)
 
 -- no grants, and some
-pub none-granted : (old new : List ℕ) (at r n : ℕ) (gs : List Grant) → n ≡ 0 → Appended old at (45 ∷ []) new r → Printed 127 old at (grantsText (take n gs)) new r
-none-granted old new at r n gs e w = rw e (printed-longer (omega arith) (printed-byte w))
+pub none-granted : (old new : List ℕ) (at r k n : ℕ) (gs : List Grant) → n ≡ min k 32 → n ≡ 0 → Appended old at (45 ∷ []) new r → Printed 127 old at (grantsText (take k gs)) new r
+none-granted old new at r k n gs m e w =
+    let z : k ≡ 0 = omega arith in
+    rw z (printed-longer (omega arith) (printed-byte w))
 
 granted-text : (gs : List Grant) → 0 < length gs → takersText gs ≡ grantsText gs
 granted-text [] h = absurd (omega arith)
 granted-text (g ∷ gs) h = refl
 
-pub some-granted : (old new : List ℕ) (at r n : ℕ) (gs : List Grant) → (n ≡ 0 → ⊥) → n ≤ 32 → length gs ≡ 32 → Printed 127 old at (takersText (take n gs)) new r → Printed 127 old at (grantsText (take n gs)) new r
-some-granted old new at r n gs z l h w =
-    let m : 0 < length (take n gs) = rw (length-take-le n gs (omega arith)) (omega arith) in
-    rw (granted-text (take n gs) m) at w
+-- no more stand in the array than it has places
+all-standing : (k n : ℕ) (gs : List Grant) → n ≡ min k 32 → length gs ≡ 32 → take n gs ≡ take k gs
+all-standing k n gs m h =
+    elim (decLe k 32) [
+      | yes l ↦ let e : n ≡ k = omega arith in rw e
+      | no l ↦ take-all n gs (omega arith) ∙ sym (take-all k gs (omega arith))
+    ]
+
+pub some-granted : (old new : List ℕ) (at r k n : ℕ) (gs : List Grant) → n ≡ min k 32 → (n ≡ 0 → ⊥) → length gs ≡ 32 → Printed 127 old at (takersText (take n gs)) new r → Printed 127 old at (grantsText (take k gs)) new r
+some-granted old new at r k n gs m z h w =
+    let l : 0 < length (take n gs) = rw (length-take-le n gs (omega arith)) (omega arith) in
+    rw (granted-text (take n gs) l, all-standing k n gs m h) at w

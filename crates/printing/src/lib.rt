@@ -1,7 +1,7 @@
 // The line that a step prints: its reply, what the state shows, and its grants.
 ghost use mathlib.Core.Path.{_≡_};
 ghost use mathlib.Core.List.{_∷_, _++_, []};
-ghost use Prim.Native.Nat.{_+_, _≤_, _<_};
+ghost use Prim.Native.Nat.{_+_, _≤_, _<_, min};
 ghost use lib.ListN.{length, take};
 ghost use Rattle.rules.specs.Sizes.{slotCount};
 ghost use Rattle.rules.specs.Text.{space, comma, digits};
@@ -121,11 +121,18 @@ fn print_takers(buf: &mut [u8], at: usize, items: [Grant; 32], n: usize) -> usiz
     print_rest(buf, p, items, n)
 }
 
+// How many of n grants stand in the array.
+fn standing(n: usize) -> usize
+    ensures { λ r. ⌜ r ≡ min n slotCount ⌝ }
+{
+    if n < 32 { n } else { 32 }
+}
+
 fn print_grants(buf: &mut [u8], at: usize, g: Grants) -> usize
-    requires { ⌜ (g .len ≤ slotCount) × (at + 127 ≤ length (now buf)) ⌝ }
+    requires { ⌜ at + 127 ≤ length (now buf) ⌝ }
     ensures { λ r. ⌜ Printed 127 (now (buf .entry)) at (grantsText (grantsOf g)) (now (buf .exit)) r ⌝ }
 {
-    let n = g.len;
+    let n = standing(g.len);
     if n == 0 {
         return text::put(buf, at, b"-");
     }
@@ -135,7 +142,7 @@ fn print_grants(buf: &mut [u8], at: usize, g: Grants) -> usize
 
 // The whole line, which takes at most 180 bytes.
 pub fn print_line(buf: &mut [u8], at: usize, a: Reply, c: Counts, g: Grants) -> usize
-    requires { ⌜ (g .len ≤ slotCount) × (at + 180 ≤ length (now buf)) ⌝ }
+    requires { ⌜ at + 180 ≤ length (now buf) ⌝ }
     ensures { λ r. ⌜ Printed 180 (now (buf .entry)) at (lineText (answerOf a) c (grantsOf g)) (now (buf .exit)) r ⌝ }
 {
     let p = print_answer(buf, at, a);

@@ -1,32 +1,15 @@
 -- Calls that meet their contracts say and do what document 01's run of their steps says and does.
-use Prim.Native.Nat.{ℕ}
 use mathlib.Core.Path.{_≡_, refl, ap, _∙_}
 use mathlib.Core.Bool.{false}
 use mathlib.Core.List.{List, [], _∷_}
-use mathlib.Core.Option.{Option, none, some}
-use Rattle.rules.specs.declared.Step.{Step}
 use Rattle.rules.specs.Steps.{Outcome}
-use Rattle.rules.specs.Refusals.{refusal}
-use Rattle.rules.specs.Runs.{Said, unless, step, run}
+use Rattle.rules.specs.Runs.{Said, run}
 use Rattle.state.specs.declared.BatchSemaphore.{BatchSemaphore}
 use Rattle.state.specs.View.{view}
 use Rattle.broken.specs.Broken.{isBroken}
-use Rattle.outcomes.specs.declared.Stepped.{Stepped}
 use Rattle.outcomes.specs.View.{outcomeOf}
-use Rattle.semaphore.specs.Contract.{Steps}
+use Rattle.semaphore.proofs.Carried.{step-carried}
 use Rattle.promises.specs.Calls.{Call, Calls, left, stepsOf, saidBy}
-
--- one call, accepted or refused
-pub step-carried : (s : BatchSemaphore) (a : Step) (r : Stepped) → isBroken s ≡ false → Steps s a r → outcomeOf r ≡ step a (view s)
-unfolding step
-step-carried s a r f h = go (refusal a (view s)) refl
-  where
-    go : (o : Option ℕ) → refusal a (view s) ≡ o → outcomeOf r ≡ unless o a (view s)
-    go none e = h .accepted f e
-    go (some n) e =
-        let k = h .refused f n e in
-        λ i.
-        record { answer = k .answer i; grants = k .grants i; state = view (k .state i) }
 
 pub record Carried (s : BatchSemaphore) (cs : List Call) : Type 0 where
   pub state : view (left s cs) ≡ run (stepsOf cs) (view s) .state

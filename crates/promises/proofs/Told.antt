@@ -32,8 +32,8 @@ use Rattle.broken.specs.Broken.{isBroken}
 use Rattle.outcomes.specs.View.{outcomeOf}
 use Rattle.fresh.specs.declared.Started.{Started}
 use Rattle.fresh.proofs.Starts.{accepted-fresh, started-unbroken}
+use Rattle.semaphore.proofs.Carried.{step-carried}
 use Rattle.promises.specs.Calls.{Begins, Call, Calls, stepsOf}
-use Rattle.promises.proofs.Carried.{step-carried}
 
 -- what a call shows: the line that semtrace prints for it, and the counts of its grants
 pub record Shown : Type 0 where

@@ -2,3 +2,4 @@ pub mod Letters
 pub mod Onward
 pub mod Within
 pub mod FirstLine
+pub mod Short

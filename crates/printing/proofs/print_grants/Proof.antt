@@ -6,6 +6,9 @@ use Rattle.printing.proofs.Takers.{none-granted, some-granted}
 use Rattle.printing.proofs.print_grants.Statement.{statement}
 use Rattle.printing.proofs.print_grants.Tie as tie
 
+standing-requires : tie.Need-standing-requires
+standing-requires c κs = search needs
+
 slice-aggregate-put : tie.Need-slice-aggregate-put
 slice-aggregate-put c = search needs
 
@@ -33,6 +36,7 @@ pub print-grants-spec : {M : Type 1} → statement M
 print-grants-spec =
     tie.close
     (tie.spec
+    standing-requires
     slice-aggregate-put
     put-requires
     same-length
