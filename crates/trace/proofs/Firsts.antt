@@ -164,7 +164,7 @@ unended-room script l m is p h =
 pub prints-long : (script old new : List ℕ) (r : ℕ) → 65536 < length script → room script ≤ length old → Appended old 0 (108 ∷ 111 ∷ 110 ∷ 103 ∷ 10 ∷ []) new r → Prints script new r
 prints-long script old new r h k w =
     let b = front {text = 108 ∷ 111 ∷ 110 ∷ 103 ∷ 10 ∷ []} (omega arith) w in
-    record { text = b .stands ∙ sym (long-printed script h); fits = b .fits }
+    record { text = b .stands ∙ sym (long-printed script h); fits = b .fits; counted = sym (length-take-le r new (b .fits)) }
 
 pub prints-short : (script old new : List ℕ) (r : ℕ) → length script ≤ 65536 → Behind old 0 (program (lines script)) new r → Prints script new r
-prints-short script old new r h b = record { text = b .stands ∙ sym (short-printed script h); fits = b .fits }
+prints-short script old new r h b = record { text = b .stands ∙ sym (short-printed script h); fits = b .fits; counted = sym (length-take-le r new (b .fits)) }

@@ -70,7 +70,9 @@ freshOf a = start (startSaid a)
 abbrev pub entriesOf : ℕ → ℕ
 entriesOf n = cond (ltb maxTasks n) 0 (n * n)
 
--- WHAT IS PRINTED for a script's bytes stands in the buffer up to r.
+-- WHAT IS PRINTED for a script's bytes stands in the buffer up to r. (The last part follows from the one before it; a caller that writes
+-- `&out[..r]` finds it so.)
 pub record Prints (script out : List ℕ) (r : ℕ) : Type 0 where
   pub text : take r out ≡ printed script
   pub fits : r ≤ length out
+  pub counted : r ≡ length (take r out)
