@@ -1,0 +1,20 @@
+-- `trace::print_step`: the line of the outcome.
+use Rattle.trace.proofs.Lines.{step-printed}
+use borrow.Author.Needs.{needs}
+use Rattle.trace.proofs.print_step.Statement.{statement}
+use Rattle.trace.proofs.print_step.Tie as tie
+
+counts-requires : tie.Need-counts-requires
+counts-requires c κs = search needs
+
+print-line-requires : tie.Need-print-line-requires
+print-line-requires c κs = search needs
+
+same-length : tie.Need-same-length
+same-length c = search needs
+
+returns : tie.Need-returns
+returns c = search (step-printed, needs)
+
+pub print-step-spec : {M : Type 1} → statement M
+print-step-spec = tie.close (tie.spec counts-requires print-line-requires same-length returns)
