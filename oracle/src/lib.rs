@@ -1,6 +1,7 @@
 //! The Rust side of the comparison: Shuttle's unchanged `batch_semaphore.rs` and `clock.rs`, run over
 //! stand-ins for the rest of the crate and driven by semtrace scripts.
 
+pub mod bench;
 pub mod broken;
 pub mod generator;
 pub mod known;

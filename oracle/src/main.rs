@@ -2,7 +2,7 @@
 
 use oracle::generator::{self, Wish};
 use oracle::semtrace::{run_watched, Options};
-use oracle::{fault, sample, soak};
+use oracle::{bench, fault, sample, soak};
 use std::io::{self, Read, Write};
 use std::panic::{self, AssertUnwindSafe};
 use std::path::Path;
@@ -14,7 +14,9 @@ usage:
   oracle gen --seed N --lines L [--clocks]
   oracle soak --seed N --scripts K --lines L [--clocks]
   oracle sample DIRECTORY
-  oracle check DIRECTORY";
+  oracle check DIRECTORY
+  oracle workloads DIRECTORY
+  oracle bench < RECORDS";
 
 /// The exit codes: what was compared differs, wrong use, and the Rust panicked on an accepted step.
 const DIFFERENT: u8 = 1;
@@ -30,6 +32,8 @@ fn main() -> ExitCode {
         Some("gen") => unless_faulty().and_then(|()| generate(&Flags::read(words)?)),
         Some("soak") => unless_faulty().and_then(|()| run_soak(&Flags::read(words)?)),
         Some("sample") => unless_faulty().and_then(|()| write_sample(words.next().ok_or(USAGE)?)),
+        Some("workloads") => unless_faulty().and_then(|()| write_workloads(words.next().ok_or(USAGE)?)),
+        Some("bench") => run_records(),
         Some("check") => words.next().ok_or(USAGE.to_string()).and_then(check_sample),
         Some(_) => Err(USAGE.to_string()),
     };
@@ -148,4 +152,38 @@ fn check_sample(directory: &str) -> Result<ExitCode, String> {
         0 => ExitCode::SUCCESS,
         _ => ExitCode::from(DIFFERENT),
     })
+}
+
+/// Seeds of the long mixed runs, and how many steps the two runs of each have.
+const MIXED: [(&str, u64, bool); 2] = [
+    ("strict: a long mixed run", 1, true),
+    ("unfair: a long mixed run", 2, false),
+];
+const MIXED_STEPS: [usize; 2] = [20_000, 120_000];
+
+/// Two files of records for each workload, and a line: their names, how many steps they differ by, what it is.
+fn write_workloads(directory: &str) -> Result<ExitCode, String> {
+    let write = |name: String, records: Vec<u8>| {
+        std::fs::write(Path::new(directory).join(&name), records).map_err(|e| e.to_string())?;
+        Ok::<_, String>(name)
+    };
+    for (i, workload) in bench::workloads().iter().enumerate() {
+        let short = write(format!("{i}.short"), workload.records(1))?;
+        let long = write(format!("{i}.long"), workload.records(2))?;
+        println!("{short} {long} {} {}", workload.steps(), workload.name);
+    }
+    for (i, (name, seed, strictly_fair)) in MIXED.into_iter().enumerate() {
+        let [few, many] = MIXED_STEPS.map(|steps| bench::mixed(seed, strictly_fair, steps));
+        let short = write(format!("mixed{i}.short"), few)?;
+        let long = write(format!("mixed{i}.long"), many)?;
+        println!("{short} {long} {} {name}", MIXED_STEPS[1] - MIXED_STEPS[0]);
+    }
+    Ok(ExitCode::SUCCESS)
+}
+
+fn run_records() -> Result<ExitCode, String> {
+    let mut records = Vec::new();
+    io::stdin().read_to_end(&mut records).map_err(|e| e.to_string())?;
+    print!("{}", bench::run(&records));
+    Ok(ExitCode::SUCCESS)
 }

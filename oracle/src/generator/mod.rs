@@ -6,10 +6,12 @@ mod malformed;
 mod mood;
 mod opportunity;
 
+use crate::events;
 use crate::machine::{with_machine, Machine};
 use crate::random::Random;
 use crate::refusals::refusal;
 use crate::script;
+use crate::state::State;
 use crate::step::{Fresh, Step, LARGEST, MOST_TASKS};
 use mood::Mood;
 
@@ -50,6 +52,35 @@ pub fn script(wish: Wish) -> String {
         text.pop(); // a last line that nothing ends
     }
     text
+}
+
+/// So many steps from a start, all of them accepted, none of which ends a run: or as many as come before
+/// nobody can act.
+pub fn accepted_steps(seed: u64, fresh: &Fresh, steps: usize) -> Vec<Step> {
+    const DRAWS: usize = 1000;
+    let mut random = Random::new(seed);
+    let mut next = |state: &State| {
+        (0..DRAWS).find_map(|_| {
+            let drawn = random
+                .chance(25)
+                .then(|| opportunity::step(&mut random, state))
+                .flatten();
+            let step = drawn.unwrap_or_else(|| draw::step(&mut random, Mood::Ordinary, state));
+            (refusal(state, &step).is_none() && !draw::is_ending(state, &step)).then_some(step)
+        })
+    };
+    let mut all = Vec::new();
+    with_machine(fresh, |machine| {
+        while all.len() < steps {
+            let Some(step) = next(&machine.state()) else {
+                return;
+            };
+            machine.take(&step);
+            events::take();
+            all.push(step);
+        }
+    });
+    all
 }
 
 fn fresh(random: &mut Random, mood: Mood, with_clocks: bool) -> Fresh {

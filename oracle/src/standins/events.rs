@@ -43,7 +43,11 @@ thread_local! {
     static EVENTS: RefCell<Vec<Event>> = const { RefCell::new(Vec::new()) };
 }
 
+/// Under the feature `unobserved` nobody listens, as where the source's speed is measured.
 pub fn record(event: Event) {
+    if cfg!(feature = "unobserved") {
+        return;
+    }
     EVENTS.with(|events| events.borrow_mut().push(event));
 }
 

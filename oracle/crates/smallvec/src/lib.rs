@@ -1,52 +1,78 @@
-//! Stand-in for the crate `smallvec`: what `clock.rs` uses of it, over a plain `Vec`. The real one
-//! keeps short lists in place; whoever only reads and writes the elements cannot tell.
+//! Stand-in for the crate `smallvec`: what `clock.rs` uses of it. Like the real one it keeps short
+//! lists in place, so that a measurement of the source does not count allocations that Shuttle's own
+//! clocks do not make. Only lists of `u32` are used.
 
 use std::fmt;
 use std::ops::{Deref, DerefMut};
 
-/// The array type that names the element type and, in the real crate, the room kept in place.
+/// The array type that names the element type and the room kept in place.
 pub trait Array {
-    type Item;
+    type Item: Copy;
+    const ZEROS: Self;
+    fn items(&self) -> &[Self::Item];
+    fn items_mut(&mut self) -> &mut [Self::Item];
 }
 
-impl<T, const N: usize> Array for [T; N] {
-    type Item = T;
+impl<const N: usize> Array for [u32; N] {
+    type Item = u32;
+    const ZEROS: Self = [0; N];
+
+    fn items(&self) -> &[u32] {
+        self
+    }
+
+    fn items_mut(&mut self) -> &mut [u32] {
+        self
+    }
 }
 
 pub struct SmallVec<A: Array> {
-    items: Vec<A::Item>,
+    /// The elements, while they fit.
+    inline: A,
+    /// How many stand in place; nothing once they are in `spilled`.
+    len: usize,
+    /// The elements, once they do not fit in place.
+    spilled: Vec<A::Item>,
 }
 
 impl<A: Array> SmallVec<A> {
     pub const fn new_const() -> Self {
-        Self { items: Vec::new() }
+        Self {
+            inline: A::ZEROS,
+            len: 0,
+            spilled: Vec::new(),
+        }
     }
 
     pub fn push(&mut self, item: A::Item) {
-        self.items.push(item);
+        self.extend_from_slice(&[item]);
     }
 
-    /// For the macro [`smallvec!`].
-    pub fn from_vec(items: Vec<A::Item>) -> Self {
-        Self { items }
-    }
-}
-
-impl<A: Array> SmallVec<A>
-where
-    A::Item: Clone,
-{
     pub fn extend_from_slice(&mut self, items: &[A::Item]) {
-        self.items.extend_from_slice(items);
+        let len = self.len + items.len();
+        if self.spilled.is_empty() && len <= self.inline.items().len() {
+            self.inline.items_mut()[self.len..len].copy_from_slice(items);
+            self.len = len;
+        } else {
+            self.spill(items);
+        }
+    }
+
+    #[cold]
+    fn spill(&mut self, items: &[A::Item]) {
+        if self.spilled.is_empty() {
+            self.spilled = self.inline.items()[..self.len].to_vec();
+            self.len = 0;
+        }
+        self.spilled.extend_from_slice(items);
     }
 }
 
-impl<A: Array> From<&[A::Item]> for SmallVec<A>
-where
-    A::Item: Clone,
-{
+impl<A: Array> From<&[A::Item]> for SmallVec<A> {
     fn from(items: &[A::Item]) -> Self {
-        Self { items: items.to_vec() }
+        let mut all = Self::new_const();
+        all.extend_from_slice(items);
+        all
     }
 }
 
@@ -54,23 +80,31 @@ impl<A: Array> Deref for SmallVec<A> {
     type Target = [A::Item];
 
     fn deref(&self) -> &Self::Target {
-        &self.items
+        match self.spilled.is_empty() {
+            true => &self.inline.items()[..self.len],
+            false => &self.spilled,
+        }
     }
 }
 
 impl<A: Array> DerefMut for SmallVec<A> {
     fn deref_mut(&mut self) -> &mut Self::Target {
-        &mut self.items
+        match self.spilled.is_empty() {
+            true => &mut self.inline.items_mut()[..self.len],
+            false => &mut self.spilled,
+        }
     }
 }
 
-impl<A: Array> Clone for SmallVec<A>
-where
-    A::Item: Clone,
-{
+impl<A: Array + Copy> Clone for SmallVec<A> {
     fn clone(&self) -> Self {
         Self {
-            items: self.items.clone(),
+            inline: self.inline,
+            len: self.len,
+            spilled: match self.spilled.is_empty() {
+                true => Vec::new(),
+                false => self.spilled.clone(),
+            },
         }
     }
 }
@@ -80,7 +114,7 @@ where
     A::Item: fmt::Debug,
 {
     fn fmt(&self, f: &mut fmt::Formatter<'_>) -> fmt::Result {
-        self.items.fmt(f)
+        (**self).fmt(f)
     }
 }
 
@@ -89,7 +123,7 @@ where
     A::Item: PartialEq,
 {
     fn eq(&self, other: &Self) -> bool {
-        self.items == other.items
+        **self == **other
     }
 }
 
@@ -99,6 +133,6 @@ impl<A: Array> Eq for SmallVec<A> where A::Item: Eq {}
 #[macro_export]
 macro_rules! smallvec {
     ($item:expr; $count:expr) => {
-        $crate::SmallVec::from_vec(::std::vec![$item; $count])
+        $crate::SmallVec::from(&::std::vec![$item; $count][..])
     };
 }
