@@ -1,0 +1,88 @@
+// Runs that no short script reaches: K14's other half, a task's record that is lent, and scripts of 65,536 and 65,537 bytes.
+use libc::STDOUT_FILENO;
+use replies::Reply;
+use rules::Fairness;
+use rules::TaskId;
+use task::Task;
+
+// The refusal of a release whose actor's own entry is at its largest; 0 if there is none.
+fn last_tick() -> u8 {
+    let clocks = [4294967295u32; 1];
+    let made = fresh::new(Fairness::StrictlyFair, 0, 1, &clocks, TaskId(0));
+    let state = made.state;
+    let stepped = semaphore::release(state, TaskId(0), 1);
+    let reply = stepped.reply;
+    let Reply::Refused(why) = reply else {
+        return 0;
+    };
+    replies::number(why)
+}
+
+fn say_refusal() {
+    io::write_all(STDOUT_FILENO, b"own entry at its largest, release 1: r");
+    io::print_decimal(STDOUT_FILENO, last_tick() as u64);
+    io::write_all(STDOUT_FILENO, b"\n");
+}
+
+fn say_task(t: Task) {
+    if t.runnable() {
+        io::write_all(STDOUT_FILENO, b" Runnable");
+    } else {
+        io::write_all(STDOUT_FILENO, b" not-Runnable");
+    }
+    if t.woken {
+        io::write_all(STDOUT_FILENO, b"-woken");
+    }
+}
+
+// A record blocked and unblocked, and one that sleeps and is woken, where it stands.
+fn say_lent() {
+    io::write_all(STDOUT_FILENO, b"a record that is lent:");
+    let halted = lent::halted(Task::none());
+    say_task(halted);
+    say_task(lent::freed(halted));
+    let asleep = Task::none().sleep_unless_woken();
+    say_task(asleep);
+    say_task(lent::woke(asleep));
+    io::write_all(STDOUT_FILENO, b"\n");
+}
+
+// Line feeds alone: the longest script, and one byte more.
+fn longest() -> [u8; 65536] {
+    [b'\n'; 65536]
+}
+
+fn too_long() -> [u8; 65537] {
+    [b'\n'; 65537]
+}
+
+fn output() -> [u8; 2949165] {
+    [0u8; 2949165]
+}
+
+// How many bytes the longest script prints, with a first line in front.
+fn say_longest() {
+    let mut script = longest();
+    text::put(&mut script, 0, b"S 1 0 1\n");
+    let mut out = output();
+    let k = trace::run(&script, &mut out);
+    io::write_all(STDOUT_FILENO, b"65536 bytes print: ");
+    io::print_decimal(STDOUT_FILENO, k as u64);
+    io::write_all(STDOUT_FILENO, b"\n");
+}
+
+fn say_too_long() {
+    let mut script = too_long();
+    text::put(&mut script, 0, b"S 1 0 1\n");
+    let mut out = output();
+    let k = trace::run(&script, &mut out);
+    io::write_all(STDOUT_FILENO, b"65537 bytes print: ");
+    io::write_all(STDOUT_FILENO, &out[..k]);
+}
+
+fn main() {
+    say_refusal();
+    say_lent();
+    say_longest();
+    say_too_long();
+}
