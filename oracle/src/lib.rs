@@ -2,6 +2,7 @@
 //! stand-ins for the rest of the crate and driven by semtrace scripts.
 
 pub mod broken;
+pub mod compare;
 pub mod generator;
 pub mod known;
 pub mod machine;

@@ -1,5 +1,6 @@
 // Runs scripts and prints the whole state after each line, as `oracle --state` does. With no argument standard input is one script. With
-// any, it is many: before each stand the two bytes of its length, the high one first, and behind what is printed for it a line `end`.
+// any, it is many: before each stand the two bytes of its length, the high one first, and behind what is printed for it a line `end`;
+// and a first line may have starting clocks, as for `oracle --state --clocks`.
 use showing::Walk;
 
 // A buffer with so much in it is written out: the text for one line fits what is left of it.
@@ -31,8 +32,8 @@ fn turn(buf: &mut [u8], script: &[u8], w: Walk) -> Walk {
 }
 
 // Runs a script; the place in the buffer after what is not yet written out. No script has more lines than turns.
-fn run(buf: &mut [u8], at: usize, script: &[u8]) -> usize {
-    let mut w = showing::begin(at);
+fn run(buf: &mut [u8], at: usize, script: &[u8], clocks: bool) -> usize {
+    let mut w = showing::begin(at, clocks);
     let mut turns: u32 = 65540;
     while 0 < turns {
         w = turn(buf, script, w);
@@ -51,7 +52,7 @@ fn run_one(buf: &mut [u8]) {
         io::write_all(1, b"long\n");
         return;
     }
-    let end = run(buf, 0, &script[..n]);
+    let end = run(buf, 0, &script[..n], false);
     write_out(buf, end);
 }
 
@@ -67,7 +68,7 @@ struct Ran {
 
 fn run_read(buf: &mut [u8], at: usize, script: &[u8], n: usize) -> usize {
     if n <= script.len() {
-        let p = run(buf, at, &script[..n]);
+        let p = run(buf, at, &script[..n], true);
         return showing::put(buf, p, b"end\n");
     }
     at

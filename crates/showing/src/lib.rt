@@ -29,6 +29,7 @@ use state::BatchSemaphore;
 use task::Task;
 use task::Tasks;
 use text::NextLine;
+use text::Reading;
 use waiters::Reservation;
 use waiters::Waiters;
 
@@ -514,8 +515,8 @@ fn put_stepped(buf: &mut [u8], at: usize, before: BatchSemaphore, a: Step, r: St
     put_state(buf, s, state)
 }
 
-// What a line left: the state after it, the place after its text, and whether the script goes on; and whether it was a step, and
-// whether it was refused.
+// What a line left: the state after it, the place after its text, and whether the script goes on; whether it was a step, and whether
+// that was refused.
 struct Shown {
     pub state: BatchSemaphore,
     pub end: usize,
@@ -576,12 +577,12 @@ fn start_with(f: First, clocks: &[u32]) -> Started {
     }
 }
 
-// A start whose clocks are the first n entries of a list.
+// A start whose clocks are the first n entries of a list. There are no more than the list has: else they are none, which 12 refuses.
 fn start_on(f: First, entries: &[u32], n: usize) -> Started {
     if n <= entries.len() {
         return start_with(f, &entries[..n]);
     }
-    start_with(f, entries)
+    start_with(f, &[])
 }
 
 fn start(f: First) -> Started {
@@ -608,7 +609,7 @@ fn started(buf: &mut [u8], at: usize, r: Started) -> Shown {
             end,
             on: false,
             step: false,
-            refused: true,
+            refused: false,
         };
     }
     let end = put_start(buf, at, state);
@@ -627,34 +628,147 @@ fn nothing() -> BatchSemaphore {
     r.state
 }
 
-// The text for the first line, which a line feed ended.
-fn show_first(buf: &mut [u8], at: usize, line: &[u8]) -> Shown {
+// Where the field at a place of a line ends; and the field behind the one that ends at a place.
+fn field_end(line: &[u8], at: usize) -> usize {
+    if line.len() <= at {
+        return line.len();
+    }
+    text::find(line, at, b' ')
+}
+
+fn next_end(line: &[u8], at: usize) -> usize {
+    if line.len() <= at {
+        return line.len();
+    }
+    field_end(line, at + 1)
+}
+
+// Where the fields of a first line without clocks end.
+fn fourth_end(line: &[u8]) -> usize {
+    let first = field_end(line, 0);
+    let second = next_end(line, first);
+    let third = next_end(line, second);
+    next_end(line, third)
+}
+
+fn store(out: &mut [u32], i: usize, x: u32) {
+    if i < out.len() {
+        out[i] = x;
+    }
+}
+
+// What was read of the starting clocks: how many entries, where the next begins, whether there is one, and whether all were numbers.
+struct Entries {
+    pub count: usize,
+    pub at: usize,
+    pub on: bool,
+    pub fine: bool,
+}
+
+fn entry(e: Entries, at: usize, on: bool, fine: bool) -> Entries {
+    Entries {
+        count: past(e.count, 1),
+        at,
+        on,
+        fine,
+    }
+}
+
+fn read_entry(line: &[u8], out: &mut [u32], e: Entries) -> Entries {
+    let at = e.at;
+    if line.len() < at {
+        return entry(e, at, false, false);
+    }
+    match text::number_at(line, at) {
+        Reading::Last(x) => {
+            store(out, e.count, x);
+            entry(e, at, false, true)
+        }
+        Reading::Then(x, next) => {
+            store(out, e.count, x);
+            entry(e, next, true, true)
+        }
+        Reading::Other => entry(e, at, false, false),
+    }
+}
+
+// The numbers of a line from a place on. No line has more than the turns.
+fn read_entries(line: &[u8], from: usize, out: &mut [u32]) -> Entries {
+    let mut e = Entries {
+        count: 0,
+        at: from,
+        on: true,
+        fine: true,
+    };
+    let mut turns: u32 = 65540;
+    while 0 < turns {
+        e = read_entry(line, out, e);
+        turns -= 1;
+        if !e.on {
+            break;
+        }
+    }
+    e
+}
+
+// The text for a first line whose clocks stand from a place on.
+fn show_clocks(buf: &mut [u8], at: usize, f: First, line: &[u8], from: usize) -> Shown {
+    let mut entries = [0u32; 256];
+    let e = read_entries(line, from, &mut entries);
+    if !e.fine {
+        return bad(buf, at, nothing(), false);
+    }
+    started(buf, at, start_on(f, &entries, e.count))
+}
+
+fn show_plain(buf: &mut [u8], at: usize, line: &[u8]) -> Shown {
     let Opening::Is(f) = script::start_of(line) else {
         return bad(buf, at, nothing(), false);
     };
     started(buf, at, start(f))
 }
 
-// A walk through a script: the state, the place in the script, the place in the buffer after what was written, whether it goes on, and
-// how many steps there were and how many of them were refused.
+fn show_both(buf: &mut [u8], at: usize, line: &[u8], end: usize) -> Shown {
+    if line.len() <= end {
+        return show_plain(buf, at, line);
+    }
+    let Opening::Is(f) = script::start_of(&line[..end]) else {
+        return bad(buf, at, nothing(), false);
+    };
+    show_clocks(buf, at, f, line, end + 1)
+}
+
+// The text for the first line, which a line feed ended. `clocks` lets starting clocks stand behind the tasks, row by row: ours, and not
+// document 01's.
+fn show_first(buf: &mut [u8], at: usize, line: &[u8], clocks: bool) -> Shown {
+    if clocks {
+        return show_both(buf, at, line, fourth_end(line));
+    }
+    show_plain(buf, at, line)
+}
+
+// A walk through a script: the state, the place in the script, the place in the buffer after what was written, whether the next line is the
+// first and may have starting clocks, whether it goes on, and how many steps there were and how many of them were refused.
 pub struct Walk {
     pub state: BatchSemaphore,
     pub at: usize,
     pub end: usize,
     pub first: bool,
+    pub clocks: bool,
     pub on: bool,
     pub steps: u32,
     pub refused: u32,
 }
 
-// Before the first line.
-pub fn begin(end: usize) -> Walk {
+// Before the first line, which may have starting clocks.
+pub fn begin(end: usize, clocks: bool) -> Walk {
     let state = nothing();
     Walk {
         state,
         at: 0,
         end,
         first: true,
+        clocks,
         on: true,
         steps: 0,
         refused: 0,
@@ -677,6 +791,7 @@ fn moved(w: Walk, at: usize, r: Shown) -> Walk {
         at,
         end: r.end,
         first: false,
+        clocks: w.clocks,
         on: r.on,
         steps: counted(w.steps, r.step),
         refused: counted(w.refused, r.refused),
@@ -691,7 +806,7 @@ fn stopped(w: Walk) -> Walk {
 
 fn show_line(buf: &mut [u8], w: Walk, line: &[u8]) -> Shown {
     if w.first {
-        return show_first(buf, w.end, line);
+        return show_first(buf, w.end, line, w.clocks);
     }
     let state = w.state;
     show_next(buf, w.end, state, line)

@@ -6,10 +6,10 @@ use Rattle.semstate.proofs.run.Statement.{statement}
 use Rattle.semstate.proofs.run.Tie as tie
 
 abbrev Inv-loop : tie.InvT-loop
-Inv-loop buf₀ at script w₀ turns₀ buf w turns = length buf ≡ length buf₀
+Inv-loop buf₀ at script clocks w₀ turns₀ buf w turns = length buf ≡ length buf₀
 
 abbrev μ-loop : tie.MeasureT-loop
-μ-loop buf₀ at script w₀ turns₀ buf w turns = turns
+μ-loop buf₀ at script clocks w₀ turns₀ buf w turns = turns
 
 begin-requires : tie.Need-begin-requires Inv-loop μ-loop
 begin-requires c κs = search needs

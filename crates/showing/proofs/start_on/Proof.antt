@@ -1,7 +1,7 @@
 -- `showing::start_on`: a part of a list that is long enough has as many entries as asked.
-use native.Mathlib.Omega.{arith}
 use lib.Seq.{length-take-le}
 use mathlib.Core.Path.{sym}
+use native.Mathlib.Omega.{arith}
 use borrow.Author.Needs.{needs}
 use Rattle.showing.proofs.start_on.Statement.{statement}
 use Rattle.showing.proofs.start_on.Tie as tie
@@ -14,6 +14,9 @@ start-with-requires c κs = search needs
 
 returns : tie.Need-returns
 returns c = search needs
+
+slice-aggregate-start-with-2 : tie.Need-slice-aggregate-start-with-2
+slice-aggregate-start-with-2 c = search needs
 
 start-with-requires-2 : tie.Need-start-with-requires-2
 start-with-requires-2 c κs = search needs
@@ -28,5 +31,6 @@ start-on-spec =
     slice-aggregate-start-with
     start-with-requires
     returns
+    slice-aggregate-start-with-2
     start-with-requires-2
     returns-2)
