@@ -11,7 +11,8 @@ use Rattle.rules.specs.declared.Dropping.{Dropping}
 use Rattle.rules.specs.Request.{Request}
 use Rattle.rules.specs.State.{State, requestAt}
 use Rattle.rules.specs.Steps.{dropping}
-use Rattle.rules.specs.Refusals.{pollsNothing, returned, givesBack}
+use Rattle.rules.specs.Refusals.{isCompleted, pollsNothing, returned, givesBack}
+use Rattle.refusals.specs.Checks.{asksNothing}
 use Rattle.rules.proofs.Bools.{not-zero}
 
 pub both-so : {a b c d : Bool} → a ≡ c → b ≡ d → (a && b) ≡ (c && d)
@@ -25,28 +26,32 @@ too-many m s n h =
       | no l ↦ rw (le-ltb (m - s) n (omega arith), le-ltb m (s + n) (omega arith), and-false (ltb 0 n))
     ]
 
--- the request that is read at the slot
-module _ (x : Slot) (s : State) (r : Request) (e : r ≡ requestAt x s) where
-  -- 5: reserving, asking for some, holding, closed
-  as-read : pollsNothing x s ≡ not (r .ask .reserving) && eqb (r .ask .asked) 0 && not (r .holding || s .closed)
-  as-read = ap (λ (q : Request). not (q .ask .reserving) && eqb (q .ask .asked) 0 && not (q .holding || s .closed)) (sym e)
-
-  pub reserving-asks : r .ask .reserving ≡ true → false ≡ pollsNothing x s
-  reserving-asks v = sym (as-read ∙ rw v)
+-- 5: reserving, asking for some, holding, closed
+module _ (r : Request) (closed : Bool) where
+  pub reserving-asks : r .ask .reserving ≡ true → false ≡ asksNothing r closed
+  reserving-asks v = rw v
 
   module _ (v : r .ask .reserving ≡ false) where
-    pub count-asks : 0 < r .ask .asked → false ≡ pollsNothing x s
-    count-asks l = sym (as-read ∙ rw (v, not-zero (r .ask .asked) l))
+    pub count-asks : 0 < r .ask .asked → false ≡ asksNothing r closed
+    count-asks l = rw (v, not-zero (r .ask .asked) l)
 
     module _ (l : r .ask .asked ≤ 0) where
-      of-nothing : pollsNothing x s ≡ not (r .holding || s .closed)
-      of-nothing = as-read ∙ rw (v, eq-eqb (r .ask .asked) 0 (omega arith))
+      of-nothing : asksNothing r closed ≡ not (r .holding || closed)
+      of-nothing = rw (v, eq-eqb (r .ask .asked) 0 (omega arith))
 
-      pub holding-asks : r .holding ≡ true → false ≡ pollsNothing x s
+      pub holding-asks : r .holding ≡ true → false ≡ asksNothing r closed
       holding-asks h = sym (of-nothing ∙ rw h)
 
-      pub else-closed : r .holding ≡ false → not (s .closed) ≡ pollsNothing x s
+      pub else-closed : r .holding ≡ false → not closed ≡ asksNothing r closed
       else-closed h = sym (of-nothing ∙ rw h)
+
+-- the request that is read at the slot
+module _ (x : Slot) (s : State) (r : Request) (e : r ≡ requestAt x s) where
+  pub nothing-read : asksNothing r (s .closed) ≡ pollsNothing x s
+  nothing-read = ap (λ (q : Request). asksNothing q (s .closed)) e
+
+  pub completed-read : r .completed ≡ isCompleted x s
+  completed-read = ap (λ (q : Request). q .completed) e
 
   -- what a drop releases
   pub gives : (d : Dropping) (n : ℕ) → n ≡ returned d (r .ask .asked) → d ≡ dropping x s → n ≡ givesBack x s

@@ -9,13 +9,15 @@ ghost use Rattle.rules.specs.declared.Act.the-variants.{AcquireReserving, Upgra
 ghost use Rattle.rules.specs.Sizes.{largest};
 ghost use Rattle.rules.specs.Polling.{polling};
 ghost use Rattle.rules.specs.Steps.{_does_, dropping};
-ghost use Rattle.rules.specs.Refusals.{_if_, noSuchRequest, isCompleted, pollsNothing, badUpgrade, noFreeSlot, lastTick, returned as returnedOf, givesBack, releaseGrounds, refusal};
+ghost use Rattle.rules.specs.Refusals.{_if_, noSuchRequest, isCompleted, badUpgrade, noFreeSlot, lastTick, returned as returnedOf, givesBack, releaseGrounds, refusal};
 ghost use Rattle.replies.specs.Answers.{numberOf, given};
+ghost use Rattle.request.specs.View.{requestOf};
 ghost use Rattle.state.specs.View.{view};
-ghost use Rattle.refusals.specs.Checks.{Says, FirstOf, ActorChecked, AcquireChecked};
+ghost use Rattle.refusals.specs.Checks.{Says, FirstOf, ActorChecked, AcquireChecked, asksNothing};
 use deciding::both;
 use replies::Check;
 use replies::Refusal;
+use request::Request;
 use rules::Dropping;
 use rules::Polling;
 use rules::Slot;
@@ -73,10 +75,9 @@ pub fn is_completed(s: BatchSemaphore, x: Slot) -> bool
 }
 
 // 5: a plain ask of 0, neither holding nor closed.
-fn polls_nothing(s: BatchSemaphore, x: Slot) -> bool
-    ensures { λ b. ⌜ b ≡ pollsNothing x (view s) ⌝ }
+fn polls_nothing(r: Request, closed: bool) -> bool
+    ensures { λ b. ⌜ b ≡ asksNothing (requestOf r) closed ⌝ }
 {
-    let r = s.request(x);
     if r.ask.reserving {
         return false;
     }
@@ -86,7 +87,7 @@ fn polls_nothing(s: BatchSemaphore, x: Slot) -> bool
     if r.holding {
         return false;
     }
-    !s.closed
+    !closed
 }
 
 // 7, of an upgrade: held 0, or wanted not above held.
@@ -225,9 +226,10 @@ pub fn check_poll(s: BatchSemaphore, me: TaskId, x: Slot, p: Polling) -> Check
     ensures { λ r. ⌜ given r ≡ refusal (me does Poll x) (view s) ⌝ }
 {
     let actor = check_actor(s, me);
-    let slot = refuse_if(no_such_request(s, x), Refusal::NoSuchRequest);
-    let completed = refuse_if(is_completed(s, x), Refusal::Completed);
-    let count = refuse_if(polls_nothing(s, x), Refusal::AsksNothing);
+    let r = s.request(x);
+    let slot = refuse_if(!r.used, Refusal::NoSuchRequest);
+    let completed = refuse_if(r.completed, Refusal::Completed);
+    let count = refuse_if(polls_nothing(r, s.closed), Refusal::AsksNothing);
     let takes = deciding::takes_in(p);
     let tick = refuse_if(both(takes, last_tick(s, me)), Refusal::LastTick);
     first_of(

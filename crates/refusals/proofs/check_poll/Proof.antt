@@ -1,11 +1,12 @@
 -- The actor, then 3, 4, 5 and 11.
 use mathlib.Core.Path.{ap, _∙_}
+use mathlib.Core.Bool.{not}
 use borrow.Author.Needs.{needs}
 use Rattle.state.specs.View.{view}
 use Rattle.rules.specs.Refusals.{grounds}
 use Rattle.rules.specs.declared.Act.the-variants.{Poll}
 use Rattle.refusals.proofs.Composing.{in-turn, ground, by-actor, refused}
-use Rattle.refusals.proofs.Grounds.{both-so}
+use Rattle.refusals.proofs.Grounds.{both-so, completed-read, nothing-read}
 use Rattle.rules.specs.Polling.{takesIn}
 use Rattle.refusals.proofs.check_poll.Statement.{statement}
 use Rattle.refusals.proofs.check_poll.Tie as tie
@@ -13,14 +14,11 @@ use Rattle.refusals.proofs.check_poll.Tie as tie
 check-actor-requires : tie.Need-check-actor-requires
 check-actor-requires c κs = search needs
 
-no-such-request-requires : tie.Need-no-such-request-requires
-no-such-request-requires c κs = search needs
+request-requires : tie.Need-request-requires
+request-requires c κs = search needs
 
 refuse-if-requires : tie.Need-refuse-if-requires
 refuse-if-requires c κs = search needs
-
-is-completed-requires : tie.Need-is-completed-requires
-is-completed-requires c κs = search needs
 
 refuse-if-requires-2 : tie.Need-refuse-if-requires-2
 refuse-if-requires-2 c κs = search needs
@@ -62,12 +60,13 @@ returns c =
     let takes-at = tick-at .before .before .before in
     let count-at = takes-at .before in
     let completed-at = count-at .before .before in
-    let slot-at = completed-at .before .before in
-    let actor-at = slot-at .before .before in
+    let slot-at = completed-at .before in
+    let read-at = slot-at .before .before in
+    let actor-at = read-at .before in
     let a = actor-at .before .args in
-    let slot = ground (slot-at .refuse-if .ensures) (slot-at .before .no-such-request .ensures) in
-    let completed = ground (completed-at .refuse-if2 .ensures) (completed-at .before .is-completed .ensures) in
-    let count = ground (count-at .refuse-if3 .ensures) (count-at .before .polls-nothing .ensures) in
+    let slot = ground (slot-at .refuse-if .ensures) (ap not (read-at .request .ensures .used)) in
+    let completed = ground (completed-at .refuse-if2 .ensures) (completed-read (a .x) (view (a .s)) _ (read-at .request .ensures .request)) in
+    let count = ground (count-at .refuse-if3 .ensures) (count-at .before .polls-nothing .ensures ∙ nothing-read (a .x) (view (a .s)) _ (read-at .request .ensures .request)) in
     let takes = takes-at .takes-in .ensures ∙ ap takesIn (actor-at .before .pre) in
     let tick = ground (tick-at .refuse-if4 .ensures) (tick-at .before .both .ensures ∙ both-so takes (tick-at .before .before .last-tick .ensures)) in
     refused (a .me) (Poll (a .x)) (view (a .s))
@@ -80,9 +79,8 @@ check-poll-spec =
     tie.close
     (tie.spec
     check-actor-requires
-    no-such-request-requires
+    request-requires
     refuse-if-requires
-    is-completed-requires
     refuse-if-requires-2
     polls-nothing-requires
     refuse-if-requires-3
