@@ -13,7 +13,7 @@ for name in $names; do
         hidden=$((hidden + 1))
         continue
     fi
-    shown=$(target/faults/oracle check sample 2>/dev/null | sed -n 2p)
+    shown=$(target/faults/oracle check ../crates/replay/data 2>/dev/null | sed -n 2p)
     printf '%-50s %s\n' "$name" "$shown"
     case $shown in
     0\ * | '') hidden=$((hidden + 1)) ;;

@@ -3,6 +3,7 @@
 
 pub mod bench;
 pub mod broken;
+pub mod compare;
 pub mod generator;
 pub mod known;
 pub mod machine;

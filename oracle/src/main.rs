@@ -1,5 +1,6 @@
 //! The command line.
 
+use oracle::compare::{self, Difference};
 use oracle::generator::{self, Wish};
 use oracle::semtrace::{run_watched, Options};
 use oracle::{bench, fault, sample, soak};
@@ -13,6 +14,7 @@ usage:
   oracle [--state] [--count] [--clocks] < SCRIPT
   oracle gen --seed N --lines L [--clocks]
   oracle soak --seed N --scripts K --lines L [--clocks]
+  oracle compare PROGRAM --seed N --scripts K --lines L
   oracle sample DIRECTORY
   oracle check DIRECTORY
   oracle workloads DIRECTORY
@@ -31,6 +33,10 @@ fn main() -> ExitCode {
         None => Flags::read(words).and_then(|flags| run_script(&flags)),
         Some("gen") => unless_faulty().and_then(|()| generate(&Flags::read(words)?)),
         Some("soak") => unless_faulty().and_then(|()| run_soak(&Flags::read(words)?)),
+        Some("compare") => unless_faulty().and_then(|()| {
+            let program = words.next().ok_or(USAGE)?;
+            run_compare(program, &Flags::read(words)?)
+        }),
         Some("sample") => unless_faulty().and_then(|()| write_sample(words.next().ok_or(USAGE)?)),
         Some("workloads") => unless_faulty().and_then(|()| write_workloads(words.next().ok_or(USAGE)?)),
         Some("bench") => run_records(),
@@ -130,6 +136,41 @@ fn run_soak(flags: &Flags) -> Result<ExitCode, String> {
         count.left_out, count.steps
     );
     Ok(ExitCode::SUCCESS)
+}
+
+fn run_compare(program: &str, flags: &Flags) -> Result<ExitCode, String> {
+    panic::set_hook(Box::new(|_| ())); // a panic of the Rust shows as a difference
+    let compared = compare::compare(program, flags.wish(), flags.scripts).map_err(|e| format!("{program}: {e}"))?;
+    let count = compared.count;
+    println!(
+        "{} scripts the same, from seed {} on: {} lines; {} steps, of which {} were refused and left out; {} bytes of states",
+        compared.scripts, flags.seed, compared.lines, count.steps, count.left_out, compared.bytes
+    );
+    println!("{} of them with starting clocks", compared.with_clocks);
+    match &compared.difference {
+        None => {
+            println!("no difference");
+            Ok(ExitCode::SUCCESS)
+        }
+        Some(difference) => {
+            print_difference(difference);
+            Ok(ExitCode::from(DIFFERENT))
+        }
+    }
+}
+
+fn print_difference(difference: &Difference) {
+    let Difference {
+        seed,
+        script,
+        smallest,
+        line,
+        rust,
+        other,
+    } = difference;
+    println!("\nFIRST DIFFERENCE, with seed {seed}. The script:\n\n{script}");
+    println!("The smallest that still differs, at its line {line}:\n\n{smallest}");
+    println!("The Rust, from there on:\n\n{rust}\nThe other side:\n\n{other}");
 }
 
 fn write_sample(directory: &str) -> Result<ExitCode, String> {

@@ -6,9 +6,12 @@ use oracle::situations::Tally;
 use std::fs;
 use std::path::Path;
 
+/// Where the program that replays it has it.
+const SAMPLE: &str = "../crates/replay/data";
+
 #[test]
 fn nothing_differs() {
-    let checked = check(Path::new("sample")).expect("the sample can be read");
+    let checked = check(Path::new(SAMPLE)).expect("the sample can be read");
     assert!(checked.scripts >= 200);
     assert_eq!(checked.different, Vec::<String>::new());
 }
@@ -17,7 +20,7 @@ fn nothing_differs() {
 fn every_situation_is_reached() {
     let mut tally = Tally::default();
     for number in 0.. {
-        let Ok(script) = fs::read(format!("sample/{number:03}.script")) else {
+        let Ok(script) = fs::read(format!("{SAMPLE}/{number:03}.script")) else {
             break;
         };
         run_watched(&mut String::new(), &script, Options::default(), &mut |happening| {

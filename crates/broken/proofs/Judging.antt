@@ -6,18 +6,21 @@ use mathlib.Core.List.{List, map}
 use mathlib.Core.Option.{Option, none, some}
 use borrow.Author.Tests.{eq-eqb, ne-eqb, le-leb, lt-leb, not-true, not-false}
 use lib.Dec.{leb, eqb}
-use lib.ListN.{length, getD}
+use lib.ListN.{length, getD, length-map, List·getD-eq-default}
+use lib.Seq.{getD-take}
 use Rattle.rules.specs.declared.Slot.{Slot}
 use Rattle.rules.specs.Request.{Request as RequestRule}
 use Rattle.rules.specs.State.{isSome}
 use Rattle.rules.specs.Refusals.{badReserving}
 use Rattle.rules.specs.Broken.{anyOf, reservedSlots}
 use Rattle.request.specs.declared.Request.{Request}
+use Rattle.request.specs.declared.Requests.{Requests}
 use Rattle.rules.proofs.Places.{map-getD}
 use Rattle.waiters.specs.declared.Reservation.{Reservation}
-use Rattle.waiters.specs.View.{reservationOf}
-use Rattle.request.specs.View.{requestOf, seen, Stands}
-use Rattle.broken.specs.Parts.{cannotWaitAs, unfit, Marks, misfitAs, misfit, misreserved}
+use Rattle.waiters.specs.declared.Waiters.{Waiters}
+use Rattle.waiters.specs.View.{waitersOf, slot0, reservationOf}
+use Rattle.request.specs.View.{requestOf, seen, slotsOf, Stands}
+use Rattle.broken.specs.Parts.{cannotWaitAs, unfitAs, unfit, Marks, misfitAs, misfit, misreserved}
 
 -- ---- a request in its slot, against the queue and the fairness
 module _ (r : Request) (named fair : Bool) where
@@ -43,24 +46,32 @@ module _ (r : Request) (named fair : Bool) where
         misfit-unfair f = sym (used ∙ rw (m, not-false (r .ask .reserving) p, f))
 
 -- ---- a queued request
-module _ (n : ℕ) (rs : List (Option RequestRule)) (x : Slot) (r : Request) (s : Stands r (getD rs (x .0) none)) where
-  pub unfit-free : not (r .used) ≡ true → true ≡ unfit n rs x
-  unfit-free u =
-      let e : getD rs (x .0) none ≡ none = sym (s .used) ∙ rw (not-true (r .used) u) in
-      rw e
+module _ (n : ℕ) (r : Request) where
+  pub unfit-free : not (r .used) ≡ true → true ≡ unfitAs n (seen r)
+  unfit-free u = rw (not-true (r .used) u)
 
   module _ (u : not (r .used) ≡ false) where
-    there : isSome (getD rs (x .0) none) ≡ true
-    there = rw (← s .used, not-false (r .used) u)
+    asks : unfitAs n (seen r) ≡ eqb (r .ask .asked) 0 || cannotWaitAs n (requestOf r)
+    asks = rw (not-false (r .used) u)
 
-    asks : unfit n rs x ≡ eqb (r .ask .asked) 0 || cannotWaitAs n (requestOf r)
-    asks = rw (there, ← s .view)
-
-    pub unfit-asks : r .ask .asked ≡ 0 → true ≡ unfit n rs x
+    pub unfit-asks : r .ask .asked ≡ 0 → true ≡ unfitAs n (seen r)
     unfit-asks z = sym (asks ∙ rw (eq-eqb (r .ask .asked) 0 z))
 
-    pub unfit-waits : (r .ask .asked ≡ 0 → ⊥) → cannotWaitAs n (requestOf r) ≡ unfit n rs x
+    pub unfit-waits : (r .ask .asked ≡ 0 → ⊥) → cannotWaitAs n (requestOf r) ≡ unfitAs n (seen r)
     unfit-waits z = sym (asks ∙ rw (ne-eqb (r .ask .asked) 0 z))
+
+-- the slot that stands at i in the queue, by what the arrays have
+module _ (n : ℕ) (rs : Requests) (w : Waiters) (i : ℕ) where
+  pub queued-there : (d : Request) → i < w .len → getD (w .slots) i slot0 .0 < length (rs .all)
+      → unfit n (slotsOf rs) (getD (waitersOf w) i slot0) ≡ unfitAs n (seen (getD (rs .all) (getD (w .slots) i slot0 .0) d))
+  unfolding slotsOf waitersOf
+  queued-there d h k = rw (getD-take (w .len) (w .slots) i slot0 h, map-getD seen (rs .all) (getD (w .slots) i slot0 .0) d none k)
+
+  pub queued-beyond : i < w .len → length (rs .all) ≤ getD (w .slots) i slot0 .0 → unfit n (slotsOf rs) (getD (waitersOf w) i slot0) ≡ true
+  unfolding slotsOf waitersOf
+  queued-beyond h k =
+      let e : length (map seen (rs .all)) ≤ getD (w .slots) i slot0 .0 = simp length-map k in
+      rw (getD-take (w .len) (w .slots) i slot0 h, List·getD-eq-default (map seen (rs .all)) none {n = getD (w .slots) i slot0 .0} e)
 
 pub waits-else : (n : ℕ) (r : Request) → r .holding ≡ false → r .completed ≡ false → leb n (r .task .0) ≡ cannotWaitAs n (requestOf r)
 waits-else n r h c = rw (h, c)

@@ -18,12 +18,15 @@ use Rattle.permits.specs.Broken.{badBatches}
 abbrev pub cannotWaitAs : ℕ → Request → Bool
 cannotWaitAs n r = r .holding || r .completed || leb n (r .task .0)
 
--- queued, and free, asking for nothing or unable to wait
-abbrev pub unfit : ℕ → List (Option Request) → Slot → Bool
-unfit n rs x =
-    let o = getD rs (x .0) none in
+-- free, asking for nothing or unable to wait
+abbrev pub unfitAs : ℕ → Option Request → Bool
+unfitAs n o =
     let r = Option·getD o noRequest in
     not (isSome o) || eqb (r .ask .asked) 0 || cannotWaitAs n r
+
+-- queued, and so
+abbrev pub unfit : ℕ → List (Option Request) → Slot → Bool
+unfit n rs x = unfitAs n (getD rs (x .0) none)
 
 -- in use, and marked other than named, or reserving as 6 or 7 would refuse
 abbrev pub misfitAs : Option Request → Bool → Bool → Bool

@@ -9,7 +9,7 @@ ghost use Rattle.rules.specs.Refusals.{badReserving};
 ghost use Rattle.rules.specs.Broken.{anyOf, everySlot, reservedSlots};
 ghost use Rattle.request.specs.View.{requestOf, seen as seenAs, slotsOf};
 ghost use Rattle.waiters.specs.View.{waitersOf, reservationOf};
-ghost use Rattle.broken.specs.Parts.{cannotWaitAs, unfit, Marks, misfitAs, misfit, misreserved, brokenWaiting};
+ghost use Rattle.broken.specs.Parts.{cannotWaitAs, unfitAs, unfit, Marks, misfitAs, misfit, misreserved, brokenWaiting};
 ghost use Rattle.broken.specs.Broken.{Judged};
 use request::Request;
 use request::Requests;
@@ -42,11 +42,10 @@ fn cannot_wait(r: Request, tasks: usize) -> bool
     tasks <= r.task.0 as usize
 }
 
-// A queued slot that is free, asks for nothing, or cannot wait.
-fn is_unfit(requests: Requests, x: Slot, tasks: usize) -> bool
-    ensures { λ b. ⌜ b ≡ unfit tasks (slotsOf requests) x ⌝ }
+// What stands in a queued slot, and is free, asks for nothing, or cannot wait.
+fn is_unfit(r: Request, tasks: usize) -> bool
+    ensures { λ b. ⌜ b ≡ unfitAs tasks (seenAs r) ⌝ }
 {
-    let r = requests.get(x);
     if !r.used {
         return true;
     }
@@ -82,8 +81,13 @@ fn queue_is_broken(waiters: Waiters, requests: Requests, tasks: usize) -> bool
     let len = waiters.len;
     let mut i: usize = 0;
     while i < len {
-        let x = waiters.at(i);
-        if is_unfit(requests, x, tasks) {
+        let x = waiters.slots[i];
+        let k = x.0 as usize;
+        if 32 <= k {
+            return true;
+        }
+        let r = requests.all[k];
+        if is_unfit(r, tasks) {
             return true;
         }
         i += 1;

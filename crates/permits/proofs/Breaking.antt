@@ -2,7 +2,7 @@
 use Prim.Native.Nat.{ℕ, _≤_, _<_}
 use native.Mathlib.Decide.{decLt}
 use native.Mathlib.Omega.{arith}
-use mathlib.Core.Path.{_≡_, sym, _∙_}
+use mathlib.Core.Path.{_≡_}
 use mathlib.Core.Bool.{Bool, true, false, not, _||_, Bool·not-not}
 use borrow.Author.Tests.{lt-ltb, le-ltb, le-leb, lt-leb, leb-false, ltb-false}
 use lib.Dec.{leb, ltb, eqb}
@@ -68,7 +68,3 @@ module _ (p : PermitsAvailable) (sound : brokenPermits p ≡ false) where
         head = leb-false batchCount (p .«permit_clocks» .head) (rw r at (parts .0));
         count = ltb-false batchCount (p .«permit_clocks» .count) (rw (r, ring-length) at few);
       }
-
--- what a caller of `is_broken` learns where the answer is no
-pub told-formed : (p : PermitsAvailable) (b : Bool) → b ≡ brokenPermits p → b ≡ false → WellFormed p
-told-formed p b e f = unbroken-formed p (sym e ∙ f)

@@ -155,11 +155,13 @@ impl PermitClocks {
         requires { ⌜ InRange self ⌝ }
         ensures { λ r. ⌜ r ≡ not (anyOf isEmptyBatch (batchesOf self) || not (eqb (total (batchesOf self)) n)) ⌝ }
     {
+        // the sizes alone are copied, and not the clocks
+        let sizes = self.sizes;
         let mut sum: u64 = 0;
         let mut i: usize = 0;
         while i < self.count {
             let place = (self.head + i) % PermitClocks::PLACES;
-            let size = self.sizes[place];
+            let size = sizes[place];
             if size == 0 {
                 return false;
             }

@@ -51,9 +51,6 @@ not-both false y f = refl
 pub and-other : (x y : Bool) → x && y ≡ false → x ≡ true → y ≡ false
 and-other x y e f = sym (ap (λ (b : Bool). b && y) f) ∙ e
 
-pub is-not : (b : Bool) → b ≡ false → not b ≡ true
-is-not b e = rw e
-
 pub is-not-not : (b : Bool) → b ≡ true → not b ≡ false
 is-not-not b e = rw e
 

@@ -4,7 +4,7 @@ use native.Mathlib.Nat.{max-comm, max-eq-left, le-max-left, le-max-right, max-le
 use native.Mathlib.Omega.{arith}
 use mathlib.Core.Path.{_≡_, refl, ap}
 use mathlib.Core.List.{[], _∷_}
-use lib.ListN.{length, length-set, length-replicate}
+use lib.ListN.{length, length-replicate}
 use Rattle.rules.specs.Clock.{Clock, join, tick, empty}
 
 -- as wide, and no entry larger: the order of clocks
@@ -21,10 +21,6 @@ unfolding join
 length-join [] d = refl
 length-join (x ∷ c) [] = refl
 length-join (x ∷ c) (y ∷ d) = ap suc (length-join c d)
-
-pub length-tick : (i : ℕ) (c : Clock) → length (tick i c) ≡ length c
-unfolding tick
-length-tick i c = length-set c i _
 
 pub length-empty : (w : ℕ) → length (empty w) ≡ w
 unfolding empty

@@ -12,7 +12,7 @@ use Rattle.rules.specs.declared.Ask.{Ask}
 use Rattle.rules.specs.Sizes.{slotCount}
 use Rattle.rules.specs.Request.{Request, noRequest, queuedAs, polledPending}
 use Rattle.rules.specs.State.{State, strict, sameSlot, isThe, hasReservation, inUse, requestAt, withQueue, withReservation, withSlots, alterRequest, close}
-use Rattle.rules.specs.Scan.{without, leave, queueBack, queueFront}
+use Rattle.rules.specs.Scan.{without, leave}
 use Rattle.rules.specs.Steps.{free}
 use Rattle.rules.specs.Broken.{member, twice}
 use Rattle.rules.specs.Sound.{Waits, Reserves, WellMade, Sound}
@@ -232,26 +232,6 @@ sound-joined x f s q k j h =
   where
     b : State
     b = alterRequest x f (withQueue q s)
-
--- a request that waits in no queue may be queued as it is
-pub may-queue : (x : Slot) (s : State)
-    → inUse x s ≡ true → hasReservation x s ≡ false → s .closed ≡ false → CanWait (length (s .tasks)) (requestAt x s)
-    → MayJoin x (queuedAs true) s
-may-queue x s u v o c =
-    record {
-      used = u;
-      unreserved = v;
-      «open» = o;
-      ask = λ r. refl;
-      queued = λ r. refl;
-      waits = record { asks = c .asks; holding = c .holding; completed = c .completed; task = c .task };
-    }
-
-pub sound-queue-back : (x : Slot) (s : State) → member x (s .queue) ≡ false → MayJoin x (queuedAs true) s → Sound s → Sound (queueBack x s)
-sound-queue-back x s m k h = sound-joined x (queuedAs true) s _ k (joins-back x s h m) h
-
-pub sound-queue-front : (x : Slot) (s : State) → member x (s .queue) ≡ false → MayJoin x (queuedAs true) s → Sound s → Sound (queueFront x s)
-sound-queue-front x s m k h = sound-joined x (queuedAs true) s _ k (joins-front x s h m) h
 
 -- the queue has room for every slot that is not in it
 pub queue-room : (x : Slot) (s : State) → member x (s .queue) ≡ false → x .0 < slotCount → Sound s → length (s .queue) < slotCount

@@ -25,7 +25,3 @@ sound-take-queued x s l h =
 pub take-stock : (t : TaskId) (n : ℕ) (s : State) → stock (takeAs t n s) ≡ stock s - n
 unfolding takeAs taking
 take-stock t n s = refl
-
-pub take-queued-stock : (x : Slot) (s : State) → stock (takeQueued x s) ≡ stock s - askedAt x s
-unfolding takeQueued taking
-take-queued-stock x s = refl

@@ -22,11 +22,11 @@ use Rattle.rules.specs.Scan.{leave, walk, scan}
 use Rattle.rules.specs.Waking.{wakeUnfair}
 use Rattle.rules.specs.Polling.{polling, pollWork}
 use Rattle.rules.specs.Steps.{make, tryBy, poll, addReleased, release, dropping, dropWork, dropRequest, emptyQueue, dropReservation, closing, effectOf}
-use Rattle.rules.specs.Runs.{step, run}
+use Rattle.rules.specs.Runs.{step}
 use Rattle.rules.proofs.Tasks.{Roused, roused-keeps, by-cleared, rouse-unfair, rouse-unfinished, reblocks}
 use Rattle.rules.proofs.Decisions.{by-release, by-drop-queued}
 use Rattle.rules.proofs.KeepsScan.{by-walk, granted-fairness}
-use Rattle.rules.proofs.KeepsSteps.{by-closing, by-refusal, by-run}
+use Rattle.rules.proofs.KeepsSteps.{by-closing, by-refusal}
 
 pub record Untouched (s b : State) : Type 0 where
   pub fairness : b .fairness ≡ s .fairness
@@ -135,6 +135,3 @@ fairness-act t Finish s = refl
 
 pub fairness-step : (a : Step) (s : State) → step a s .state .fairness ≡ s .fairness
 fairness-step a s = by-refusal (λ o. o .state .fairness ≡ s .fairness) a s (λ e. fairness-act (a .actor) (a .act) s) (λ n e. refl)
-
-pub fairness-run : (as′ : List Step) (s : State) → run as′ s .state .fairness ≡ s .fairness
-fairness-run as′ s = by-run (λ b. b .fairness ≡ s .fairness) (λ a b e. fairness-step a b ∙ e) as′ s refl

@@ -4,9 +4,6 @@ use borrow.Author.Needs.{needs}
 use Rattle.broken.proofs.is_unfit.Statement.{statement}
 use Rattle.broken.proofs.is_unfit.Tie as tie
 
-get-requires : tie.Need-get-requires
-get-requires c κs = search needs
-
 returns : tie.Need-returns
 returns c = search (unfit-free, needs)
 
@@ -20,4 +17,4 @@ returns-3 : tie.Need-returns-3
 returns-3 c = c .cannot-wait .ensures ∙ search (unfit-waits, needs)
 
 pub is-unfit-spec : {M : Type 1} → statement M
-is-unfit-spec = tie.close (tie.spec get-requires returns returns-2 cannot-wait-requires returns-3)
+is-unfit-spec = tie.close (tie.spec returns returns-2 cannot-wait-requires returns-3)

@@ -6,10 +6,10 @@ use Rattle.permits.proofs.PermitClocks.adds_up.Statement.{statement}
 use Rattle.permits.proofs.PermitClocks.adds_up.Tie as tie
 
 abbrev Inv-loop : tie.InvT-loop
-Inv-loop n self sum₀ i₀ sum i = Summing self sum i
+Inv-loop self n sizes sum₀ i₀ sum i = Summing self sum i
 
 abbrev μ-loop : tie.MeasureT-loop
-μ-loop n self sum₀ i₀ sum i = self .count - i
+μ-loop self n sizes sum₀ i₀ sum i = self .count - i
 
 loop-holds : tie.Need-loop-holds Inv-loop μ-loop
 loop-holds c = sums-none _
@@ -20,8 +20,8 @@ add-place c = search needs
 mul-size : tie.Need-mul-size Inv-loop μ-loop
 mul-size c = search needs
 
-element-copy-out-size : tie.Need-element-copy-out-size Inv-loop μ-loop
-element-copy-out-size c = search needs
+array-read-size : tie.Need-array-read-size Inv-loop μ-loop
+array-read-size c = search needs
 
 returns : tie.Need-returns Inv-loop μ-loop
 returns c = search (finds-empty, needs)
@@ -39,7 +39,7 @@ loop-less : tie.Need-loop-less Inv-loop μ-loop
 loop-less c = search needs
 
 loop-again : tie.Need-loop-again Inv-loop μ-loop
-loop-again c = search (sums-more, c .if1 .left, needs)
+loop-again c = search (sums-more, c .if2 .left, needs)
 
 returns-2 : tie.Need-returns-2 Inv-loop μ-loop
 returns-2 c = search (sums-whole, needs)
@@ -53,7 +53,7 @@ adds-up-spec =
     loop-holds
     add-place
     mul-size
-    element-copy-out-size
+    array-read-size
     returns
     cast-sum
     add-sum

@@ -1,0 +1,125 @@
+// Runs scripts and prints the whole state after each line, as `oracle --state` does. With no argument standard input is one script. With
+// any, it is many: before each stand the two bytes of its length, the high one first, and behind what is printed for it a line `end`;
+// and a first line may have starting clocks, as for `oracle --state --clocks`.
+use showing::Walk;
+
+// A buffer with so much in it is written out: the text for one line fits what is left of it.
+const FULL: usize = 32768;
+
+// Scripts above this are not read.
+const MOST: usize = 65536;
+
+fn write_out(buf: &[u8], n: usize) {
+    if n <= buf.len() {
+        io::write_all(1, &buf[..n]);
+    }
+}
+
+// Writes a full buffer out; the place where it goes on.
+fn emptied(buf: &[u8], at: usize) -> usize {
+    if at < FULL {
+        return at;
+    }
+    write_out(buf, at);
+    0
+}
+
+fn turn(buf: &mut [u8], script: &[u8], w: Walk) -> Walk {
+    let mut out = showing::walk_on(buf, script, w);
+    let end = emptied(buf, out.end);
+    out.end = end;
+    out
+}
+
+// Runs a script; the place in the buffer after what is not yet written out. No script has more lines than turns.
+fn run(buf: &mut [u8], at: usize, script: &[u8], clocks: bool) -> usize {
+    let mut w = showing::begin(at, clocks);
+    let mut turns: u32 = 65540;
+    while 0 < turns {
+        w = turn(buf, script, w);
+        turns -= 1;
+        if !w.on {
+            break;
+        }
+    }
+    w.end
+}
+
+fn run_one(buf: &mut [u8]) {
+    let mut script = [0u8; 65537];
+    let n = io::read_full(0, &mut script);
+    if MOST < n {
+        io::write_all(1, b"long\n");
+        return;
+    }
+    let end = run(buf, 0, &script[..n], false);
+    write_out(buf, end);
+}
+
+fn length_of(high: u8, low: u8) -> usize {
+    high as usize * 256 + low as usize
+}
+
+// Where the buffer goes on, and whether a script was there.
+struct Ran {
+    pub end: usize,
+    pub on: bool,
+}
+
+fn run_read(buf: &mut [u8], at: usize, script: &[u8], n: usize) -> usize {
+    if n <= script.len() {
+        let p = run(buf, at, &script[..n], true);
+        return showing::put(buf, p, b"end\n");
+    }
+    at
+}
+
+fn read_length() -> usize {
+    let mut head = [0u8; 2];
+    let got = io::read_full(0, &mut head);
+    if got < 2 {
+        return 65536;
+    }
+    length_of(head[0], head[1])
+}
+
+fn run_next(buf: &mut [u8], at: usize, script: &mut [u8]) -> Ran {
+    let n = read_length();
+    if script.len() < n {
+        return Ran { end: at, on: false };
+    }
+    io::read_full(0, &mut script[..n]);
+    Ran {
+        end: run_read(buf, at, script, n),
+        on: true,
+    }
+}
+
+// Runs script after script; the place in the buffer after what is not yet written out.
+fn run_each(buf: &mut [u8], script: &mut [u8]) -> usize {
+    let mut r = Ran { end: 0, on: true };
+    let mut turns: u32 = 4294967295;
+    while 0 < turns {
+        r = run_next(buf, r.end, script);
+        turns -= 1;
+        if !r.on {
+            break;
+        }
+    }
+    r.end
+}
+
+fn run_many(buf: &mut [u8]) {
+    let mut script = [0u8; 65535];
+    let end = run_each(buf, &mut script);
+    write_out(buf, end);
+}
+
+fn main() {
+    let mut buf = io::large_buffer();
+    if os::arg_count() < 2 {
+        run_one(&mut buf);
+    } else {
+        run_many(&mut buf);
+    }
+}

@@ -1,0 +1,200 @@
+//! Both sides on the same generated scripts, whole states compared, and a difference cut down.
+
+use crate::generator::{self, Wish};
+use crate::semtrace::{run_watched, Count, Options};
+use std::io::{self, Read, Write};
+use std::panic::{self, AssertUnwindSafe};
+use std::process::{Command, Stdio};
+use std::thread;
+
+/// So many scripts are given to the other side in one run of it.
+const AT_ONCE: u64 = 250;
+/// One script in so many has starting clocks.
+const CLOCKS_IN: u64 = 4;
+/// What the other side prints behind the text for a script.
+const END: &str = "end\n";
+
+/// The other side may be given starting clocks, so the first line is read so on this side too.
+const OPTIONS: Options = Options {
+    state: true,
+    clocks: true,
+};
+
+#[derive(Default)]
+pub struct Compared {
+    pub scripts: u64,
+    pub with_clocks: u64,
+    pub lines: usize,
+    pub bytes: usize,
+    pub count: Count,
+    pub difference: Option<Difference>,
+}
+
+pub struct Difference {
+    pub seed: u64,
+    /// The script as it was generated, and the smallest that still differs.
+    pub script: String,
+    pub smallest: String,
+    /// What the two sides print for the smallest, from the first line of it that differs on.
+    pub line: usize,
+    pub rust: String,
+    pub other: String,
+}
+
+/// Compare `scripts` scripts, with the seeds from that of `wish` on, up to the first difference.
+pub fn compare(program: &str, wish: Wish, scripts: u64) -> io::Result<Compared> {
+    let mut compared = Compared::default();
+    let mut seed = wish.seed;
+    while compared.difference.is_none() && seed < wish.seed + scripts {
+        let until = (seed + AT_ONCE).min(wish.seed + scripts);
+        let texts: Vec<String> = (seed..until)
+            .map(|seed| generator::script(wish_of(wish, seed)))
+            .collect();
+        let rust: Vec<String> = texts.iter().map(|text| rust_side(text, &mut compared.count)).collect();
+        let printed = other_side(program, &texts)?;
+        let same = printed_alike(&rust, &printed);
+        compared.scripts += same as u64;
+        compared.with_clocks += (seed..until).take(same).filter(|seed| has_clocks(*seed)).count() as u64;
+        compared.lines += texts[..same].iter().map(|text| text.lines().count()).sum::<usize>();
+        compared.bytes += rust[..same].iter().map(String::len).sum::<usize>();
+        if same < texts.len() {
+            compared.difference = Some(difference(program, seed + same as u64, &texts[same])?);
+        }
+        seed = until;
+    }
+    Ok(compared)
+}
+
+fn has_clocks(seed: u64) -> bool {
+    seed % CLOCKS_IN == 0
+}
+
+fn wish_of(wish: Wish, seed: u64) -> Wish {
+    Wish {
+        seed,
+        clocks: has_clocks(seed),
+        ..wish
+    }
+}
+
+/// What the Rust gives. A panic shows as a line of its own, so that it is a difference.
+fn rust_side(script: &str, count: &mut Count) -> String {
+    let mut output = String::new();
+    let ran = panic::catch_unwind(AssertUnwindSafe(|| {
+        run_watched(&mut output, script.as_bytes(), OPTIONS, &mut |_| ())
+    }));
+    match ran {
+        Ok(more) => {
+            count.steps += more.steps;
+            count.left_out += more.left_out;
+        }
+        Err(_) => output.push_str("the Rust panicked\n"),
+    }
+    output
+}
+
+/// What the other side prints for all the scripts.
+fn other_side(program: &str, scripts: &[String]) -> io::Result<Vec<u8>> {
+    let mut child = Command::new(program)
+        .arg("many")
+        .stdin(Stdio::piped())
+        .stdout(Stdio::piped())
+        .spawn()?;
+    let mut input = child.stdin.take().expect("its input is a pipe");
+    let mut framed = Vec::new();
+    for script in scripts {
+        let length = u16::try_from(script.len()).map_err(io::Error::other)?;
+        framed.extend(length.to_be_bytes());
+        framed.extend(script.as_bytes());
+    }
+    let writer = thread::spawn(move || input.write_all(&framed));
+    let mut printed = Vec::new();
+    child
+        .stdout
+        .take()
+        .expect("its output is a pipe")
+        .read_to_end(&mut printed)?;
+    child.wait()?;
+    writer.join().expect("the writer does not panic").map(|()| printed)
+}
+
+/// For how many scripts, from the first on, both sides print the same.
+fn printed_alike(rust: &[String], printed: &[u8]) -> usize {
+    let mut rest = printed;
+    for (number, text) in rust.iter().enumerate() {
+        let behind = rest
+            .strip_prefix(text.as_bytes())
+            .and_then(|rest| rest.strip_prefix(END.as_bytes()));
+        match behind {
+            Some(behind) => rest = behind,
+            None => return number,
+        }
+    }
+    rust.len()
+}
+
+fn both(program: &str, script: &str) -> io::Result<(String, String)> {
+    let rust = rust_side(script, &mut Count::default());
+    let printed = other_side(program, &[script.to_string()])?;
+    let printed = String::from_utf8_lossy(&printed).into_owned();
+    let other = printed.strip_suffix(END).unwrap_or(&printed).to_string();
+    Ok((rust, other))
+}
+
+fn difference(program: &str, seed: u64, script: &str) -> io::Result<Difference> {
+    let smallest = cut_down(script, &mut |script| {
+        let (rust, other) = both(program, script)?;
+        Ok(rust != other)
+    })?;
+    let (rust, other) = both(program, &smallest)?;
+    let (rust_blocks, other_blocks) = (blocks(&rust), blocks(&other));
+    let alike = rust_blocks
+        .iter()
+        .zip(&other_blocks)
+        .take_while(|(rust, other)| rust == other)
+        .count();
+    Ok(Difference {
+        seed,
+        script: script.to_string(),
+        smallest,
+        line: alike + 1,
+        rust: rust_blocks[alike..].concat(),
+        other: other_blocks[alike..].concat(),
+    })
+}
+
+/// The text for each line of a script: its printed line, and the indented lines behind it.
+fn blocks(printed: &str) -> Vec<String> {
+    let mut blocks: Vec<String> = Vec::new();
+    for line in printed.split_inclusive('\n') {
+        match blocks.last_mut() {
+            Some(block) if line.starts_with(' ') => block.push_str(line),
+            _ => blocks.push(line.to_string()),
+        }
+    }
+    blocks
+}
+
+/// The script without every line that it can spare: whole stretches first, then line by line, until no
+/// single line can go. The first line stays.
+pub fn cut_down(script: &str, differs: &mut dyn FnMut(&str) -> io::Result<bool>) -> io::Result<String> {
+    let mut lines: Vec<&str> = script.split_inclusive('\n').collect();
+    let mut stretch = lines.len().max(1);
+    loop {
+        let mut cut = false;
+        let mut from = lines.len();
+        while from > 1 {
+            let start = from.saturating_sub(stretch).max(1);
+            let fewer: Vec<&str> = [&lines[..start], &lines[from..]].concat();
+            if differs(&fewer.concat())? {
+                lines = fewer;
+                cut = true;
+            }
+            from = start;
+        }
+        if stretch == 1 && !cut {
+            return Ok(lines.concat());
+        }
+        stretch = (stretch / 2).max(1);
+    }
+}
