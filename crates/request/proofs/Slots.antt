@@ -3,9 +3,12 @@ use Prim.Native.Nat.{ℕ, suc, _+_, _<_, _≤_}
 use native.Mathlib.Numerals.{add-one}
 use native.Mathlib.Omega.{arith}
 use mathlib.Core.Path.{_≡_, refl, sym, _∙_}
-use mathlib.Core.Bool.{Bool, true, false, cond}
+use mathlib.Core.Bool.{Bool, true, false, cond, not}
 use mathlib.Core.List.{List, _∷_, map}
 use mathlib.Core.Option.{Option, none, some, Option·map}
+use borrow.Author.Tests.{le-ltb, lt-ltb, not-true, not-false}
+use lib.Dec.{ltb}
+use native.Mathlib.Decide.{decLt}
 use lib.ListN.{length, getD, drop, length-map, List·getD-eq-default, drop-of-length-le}
 use lib.Seq.{drop-cons}
 use Rattle.rules.specs.Request.{Request as RequestRule}
@@ -30,6 +33,33 @@ module _ (l : List Request) (i : ℕ) where
     reads-free r e s =
         let m : getD (map seen l) i none ≡ none = map-getD seen l i d none h ∙ rw e in
         rw m s
+
+-- ---- a request that is there or not, in use or not
+module _ (r q : Request) (there : Bool) where
+  pub not-there : not there ≡ true → Stands q none → Stands q (cond there (seen r) none)
+  not-there e s = rw (not-true there e) s
+
+  module _ (e : not there ≡ false) where
+    pub there-free : r .used ≡ false → Stands q none → Stands q (cond there (seen r) none)
+    there-free u s = rw (not-false there e, u) s
+
+    pub there-used : r .used ≡ true → Stands r (cond there (seen r) none)
+    there-used u = rw (not-false there e, u) (record { used = refl; view = refl })
+
+-- ---- reading the array: what stands at the place of a slot, if it is one of the slots
+pub stands-at : (l : List Request) (x j : ℕ) (d r : Request) → length l ≡ 32 → (x < 32 → j ≡ x) → Stands r (cond (ltb x 32) (seen (getD l j d)) none)
+    → Stands r (getD (map seen l) x none)
+stands-at l x j d r e p s = elim (decLt x 32) [ yes h ↦ within h | no h ↦ past h ]
+  where
+    within : x < 32 → Stands r (getD (map seen l) x none)
+    within h =
+        let m : getD (map seen l) x none ≡ seen (getD l x d) = map-getD seen l x d none (omega arith) in
+        rw m (rw (lt-ltb x 32 h, p h) at s)
+
+    past : (x < 32 → ⊥) → Stands r (getD (map seen l) x none)
+    past h =
+        let k : 32 ≤ x = omega arith in
+        reads-past l x r (omega arith) (rw (le-ltb x 32 k) at s)
 
 -- ---- changing what was read changes what stands there
 pub changes : (f : RequestRule → RequestRule) (r q : Request) (o : Option RequestRule) → Stands r o → Changed f r q → seen q ≡ Option·map f o

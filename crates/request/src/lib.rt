@@ -1,6 +1,8 @@
 // Requests, after the source's `Waiter` and `Acquire`, and the 32 slots that hold them.
 ghost use mathlib.Core.Path.{_≡_};
+ghost use mathlib.Core.Bool.{cond};
 ghost use mathlib.Core.Option.{none, some};
+ghost use Prim.Native.Nat.{_<_};
 ghost use lib.ListN.{getD, set, replicate};
 ghost use Rattle.rules.specs.Sizes.{slotCount};
 ghost use Rattle.rules.specs.Request.{noRequest, unpolled as unpolledOf, queuedAs, held};
@@ -69,6 +71,19 @@ impl Request {
         }
     }
 
+    // The request, if its slot is one of the slots and it is in use; else none.
+    pub fn standing(self, there: bool) -> Request
+        ensures { λ r. ⌜ Stands r (cond there (seen self) none) ⌝ }
+    {
+        if !there {
+            return Request::none();
+        }
+        if self.used {
+            return self;
+        }
+        Request::none()
+    }
+
     pub fn set_queued(self, queued: bool) -> Request
         ensures { λ r. ⌜ Changed (queuedAs queued) self r ⌝ }
     {
@@ -108,6 +123,17 @@ impl Request {
             }
         }
     }
+}
+
+// Where the array has the slot: for one past the last, anywhere.
+pub fn place(x: Slot) -> usize
+    ensures { λ r. ⌜ (r < slotCount) × (x .0 < slotCount → r ≡ x .0) ⌝ }
+{
+    let i = x.0 as usize;
+    if 32 <= i {
+        return 0;
+    }
+    i
 }
 
 impl Requests {

@@ -66,7 +66,9 @@ pub fn all_bypassable(waiters: Waiters, requests: Requests) -> bool
     let mut i: usize = 0;
     while i < len {
         let x = waiters.at(i);
-        let r = requests.get(x);
+        let j = request::place(x);
+        let here = requests.all[j];
+        let r = here.standing(x.0 < 32);
         let ask = r.ask;
         let kind = ask.kind;
         if !is_bypassable(kind) {

@@ -83,7 +83,9 @@ fn wake_queue(tasks: Tasks, waiters: Waiters, requests: Requests, stock: u32) ->
     let mut i: usize = 0;
     while i < len {
         let x = waiters.at(i);
-        let waiter = requests.get(x);
+        let j = request::place(x);
+        let here = requests.all[j];
+        let waiter = here.standing(x.0 < 32);
         let t = waiter.task.0 as usize;
         i += 1;
         if t < count {
@@ -194,7 +196,9 @@ fn reblock_queue(
     let mut i: usize = 0;
     while i < len {
         let x = waiters.at(i);
-        let waiter = requests.get(x);
+        let j = request::place(x);
+        let here = requests.all[j];
+        let waiter = here.standing(x.0 < 32);
         let t = waiter.task.0 as usize;
         i += 1;
         if t < count {
@@ -252,7 +256,9 @@ fn wake_all(tasks: Tasks, waiters: Waiters, requests: Requests) -> Tasks
     let mut i: usize = 0;
     while i < len {
         let x = waiters.at(i);
-        let waiter = requests.get(x);
+        let j = request::place(x);
+        let here = requests.all[j];
+        let waiter = here.standing(x.0 < 32);
         let t = waiter.task.0 as usize;
         i += 1;
         if t < count {
