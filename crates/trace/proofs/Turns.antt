@@ -4,7 +4,7 @@ use native.Mathlib.Omega.{arith}
 use mathlib.Core.Path.{_≡_, refl, ap, sym, subst, _∙_}
 use mathlib.Core.Bool.{Bool, true, false}
 use mathlib.Core.List.{List, [], _∷_, _++_, append-assoc, append-nil}
-use mathlib.Core.Option.{Option, none, some}
+use mathlib.Core.Option.{Option, none}
 use borrow.Author.Tests.{ltb-true, ltb-false}
 use lib.Dec.{ltb}
 use lib.ListN.{length, take, drop, length-take, length-drop}
@@ -15,7 +15,6 @@ use Rattle.rules.specs.Script.{stepOf, said, printing, trace}
 use Rattle.rules.proofs.Parts.{no-line}
 use Rattle.rules.proofs.Scripts.{trace-done}
 use Rattle.text.specs.Reading.{Within, NextIs}
-use Rattle.text.specs.Writing.{Appended}
 use Rattle.text.specs.declared.NextLine.{NextLine}
 use Rattle.text.specs.declared.NextLine.the-variants.{Ended, Unended, End}
 use Rattle.text.proofs.Buffer.{appended-first, appended-length}
@@ -66,9 +65,6 @@ module _ (script old new : List ℕ) (at n k next : ℕ) (s : BatchSemaphore) (o
 module _ (script : List ℕ) (at e : ℕ) (a : at ≤ e) (b : e < length script) where
   bytes-length : length (take (e - at) (drop at script)) ≡ e - at
   bytes-length = rw (length-take, length-drop) (omega arith)
-
-  pub line-fits : (n m : ℕ) → n + 45 * (e + 1 - at) ≤ m → n + 45 * (length (take (e - at) (drop at script)) + 1) ≤ m
-  line-fits n m h = omega (arith, bytes-length)
 
   pub line-turned : (o : Option Step) (s : BatchSemaphore) (old new : List ℕ) (n next : ℕ) (t : Turn) → Turned (45 * (length (take (e - at) (drop at script)) + 1)) o s old n next new t → Turned (45 * (e + 1 - at)) o s old n next new t
   line-turned o s old new n next t q =
