@@ -6,7 +6,7 @@
 cd "$(dirname "$0")/../.." || exit 2
 top=$PWD
 copy=$top/target/faulty
-crates="clock task permits waiters request taking deciding queueing waking acquiring releasing making points fresh refusals semaphore"
+crates="clock task permits waiters request state taking deciding queueing waking acquiring releasing making points fresh refusals semaphore"
 rm -rf "$copy"
 mkdir -p "$copy"
 cp -R crates crates.txt "$copy"
