@@ -105,3 +105,12 @@ pub fn k16() -> [String; 2] {
         text(&format!("S 0 0 1/{}", "A 0 1/".repeat(33))),
     ]
 }
+
+/// All 32 slots queued, then granted by one release; and what only the last slot shows.
+pub fn full_queue() -> String {
+    let makes = "A 0 1/".repeat(32);
+    let polls: String = (0..32).map(|slot| format!("P 0 {slot}/")).collect();
+    text(&format!(
+        "S 0 0 1/{makes}{polls}L 0 32/P 0 31/D 0 31/B 0 2/P 0 31/D 0 31/"
+    ))
+}

@@ -44,7 +44,8 @@ fn options(clocks: bool) -> Options {
     Options { state: true, clocks }
 }
 
-/// The known scripts, then generated ones, so that together they reach every situation several times.
+/// The known scripts, then generated ones, so that together they reach every situation several times; then
+/// those with starting clocks, and the one that fills the queue.
 pub fn chosen() -> Vec<Recorded> {
     let mut chosen = Chosen::default();
     let known = known::KNOWN.iter().map(|(_, script)| known::text(script));
@@ -71,6 +72,7 @@ pub fn chosen() -> Vec<Recorded> {
     let missing = fewest.saturating_sub(chosen.sample.len());
     chosen.sample.extend(spare.into_iter().take(missing));
     chosen.sample.extend(chosen_with_clocks());
+    chosen.sample.push(record(known::full_queue(), false).0);
     chosen.sample
 }
 
