@@ -7,15 +7,17 @@ ghost use Prim.Native.Nat.{_+_};
 ghost use lib.Dec.{ltb};
 ghost use Rattle.rules.specs.declared.Act.the-variants.{AcquireReserving, Upgrade, Poll, Try, TryUpgrade, Release, Drop};
 ghost use Rattle.rules.specs.Sizes.{largest};
-ghost use Rattle.rules.specs.Steps.{_does_};
+ghost use Rattle.rules.specs.Polling.{polling};
+ghost use Rattle.rules.specs.Steps.{_does_, dropping};
 ghost use Rattle.rules.specs.Refusals.{_if_, noSuchRequest, isCompleted, pollsNothing, badUpgrade, noFreeSlot, lastTick, returned as returnedOf, givesBack, releaseGrounds, refusal};
 ghost use Rattle.replies.specs.Answers.{numberOf, given};
-ghost use Rattle.state.specs.View.{view, Shaped};
+ghost use Rattle.state.specs.View.{view};
 ghost use Rattle.refusals.specs.Checks.{Says, FirstOf, ActorChecked, AcquireChecked};
 use deciding::both;
 use replies::Check;
 use replies::Refusal;
 use rules::Dropping;
+use rules::Polling;
 use rules::Slot;
 use rules::TaskId;
 use state::BatchSemaphore;
@@ -144,10 +146,10 @@ fn returned(d: Dropping, n: u32) -> u32
 }
 
 // How many permits a drop releases.
-fn gives_back(s: BatchSemaphore, x: Slot) -> u32
+fn gives_back(s: BatchSemaphore, x: Slot, d: Dropping) -> u32
+    requires { ⌜ d ≡ dropping x (view s) ⌝ }
     ensures { λ n. ⌜ n ≡ givesBack x (view s) ⌝ }
 {
-    let d = deciding::dropping(s, x);
     let r = s.request(x);
     returned(d, r.ask.asked)
 }
@@ -206,25 +208,27 @@ pub fn check_release(s: BatchSemaphore, me: TaskId, n: u32) -> Check
     first_of(actor, counts)
 }
 
-pub fn check_drop(s: BatchSemaphore, me: TaskId, x: Slot) -> Check
+// A drop, by what it was decided to do.
+pub fn check_drop(s: BatchSemaphore, me: TaskId, x: Slot, d: Dropping) -> Check
+    requires { ⌜ d ≡ dropping x (view s) ⌝ }
     ensures { λ r. ⌜ given r ≡ refusal (me does Drop x) (view s) ⌝ }
 {
     let actor = check_actor(s, me);
     let slot = refuse_if(no_such_request(s, x), Refusal::NoSuchRequest);
-    let counts = check_counts(s, me, gives_back(s, x));
+    let counts = check_counts(s, me, gives_back(s, x, d));
     first_of(actor, first_of(slot, counts))
 }
 
-// A poll meets 11 only if it takes.
-pub fn check_poll(s: BatchSemaphore, me: TaskId, x: Slot) -> Check
-    requires { ⌜ Shaped s ⌝ }
+// A poll, by what it was decided to do: it meets 11 only if it takes.
+pub fn check_poll(s: BatchSemaphore, me: TaskId, x: Slot, p: Polling) -> Check
+    requires { ⌜ p ≡ polling x (view s) ⌝ }
     ensures { λ r. ⌜ given r ≡ refusal (me does Poll x) (view s) ⌝ }
 {
     let actor = check_actor(s, me);
     let slot = refuse_if(no_such_request(s, x), Refusal::NoSuchRequest);
     let completed = refuse_if(is_completed(s, x), Refusal::Completed);
     let count = refuse_if(polls_nothing(s, x), Refusal::AsksNothing);
-    let takes = deciding::takes_in(deciding::polling(s, x));
+    let takes = deciding::takes_in(p);
     let tick = refuse_if(both(takes, last_tick(s, me)), Refusal::LastTick);
     first_of(
         actor,

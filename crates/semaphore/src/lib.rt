@@ -123,11 +123,11 @@ pub fn poll(s: BatchSemaphore, me: TaskId, x: Slot) -> Stepped
     if broken::is_broken(s) {
         return refuse_broken(s);
     }
-    let check = refusals::check_poll(s, me, x);
+    let p = deciding::polling(s, x);
+    let check = refusals::check_poll(s, me, x, p);
     if !replies::is_accepted(check) {
         return refuse(s, check);
     }
-    let p = deciding::polling(s, x);
     acquiring::poll_by(s, me, x, p)
 }
 
@@ -183,11 +183,11 @@ pub fn drop(s: BatchSemaphore, me: TaskId, x: Slot) -> Stepped
     if broken::is_broken(s) {
         return refuse_broken(s);
     }
-    let check = refusals::check_drop(s, me, x);
+    let d = deciding::dropping(s, x);
+    let check = refusals::check_drop(s, me, x, d);
     if !replies::is_accepted(check) {
         return refuse(s, check);
     }
-    let d = deciding::dropping(s, x);
     done(releasing::drop_request(s, me, x, d))
 }
 

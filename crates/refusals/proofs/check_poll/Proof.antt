@@ -31,9 +31,6 @@ polls-nothing-requires c κs = search needs
 refuse-if-requires-3 : tie.Need-refuse-if-requires-3
 refuse-if-requires-3 c κs = search needs
 
-polling-requires : tie.Need-polling-requires
-polling-requires c κs = c .before .before .before .before .before .before .before .pre
-
 takes-in-requires : tie.Need-takes-in-requires
 takes-in-requires c κs = search needs
 
@@ -63,7 +60,7 @@ unfolding grounds
 returns c =
     let tick-at = c .before .before .before .before in
     let takes-at = tick-at .before .before .before in
-    let count-at = takes-at .before .before in
+    let count-at = takes-at .before in
     let completed-at = count-at .before .before in
     let slot-at = completed-at .before .before in
     let actor-at = slot-at .before .before in
@@ -71,7 +68,7 @@ returns c =
     let slot = ground (slot-at .refuse-if .ensures) (slot-at .before .no-such-request .ensures) in
     let completed = ground (completed-at .refuse-if2 .ensures) (completed-at .before .is-completed .ensures) in
     let count = ground (count-at .refuse-if3 .ensures) (count-at .before .polls-nothing .ensures) in
-    let takes = takes-at .takes-in .ensures ∙ ap takesIn (takes-at .before .polling .ensures) in
+    let takes = takes-at .takes-in .ensures ∙ ap takesIn (actor-at .before .pre) in
     let tick = ground (tick-at .refuse-if4 .ensures) (tick-at .before .both .ensures ∙ both-so takes (tick-at .before .before .last-tick .ensures)) in
     refused (a .me) (Poll (a .x)) (view (a .s))
     (in-turn (by-actor (actor-at .check-actor .ensures))
@@ -89,7 +86,6 @@ check-poll-spec =
     refuse-if-requires-2
     polls-nothing-requires
     refuse-if-requires-3
-    polling-requires
     takes-in-requires
     last-tick-requires
     both-requires
