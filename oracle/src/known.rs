@@ -114,3 +114,13 @@ pub fn full_queue() -> String {
         "S 0 0 1/{makes}{polls}L 0 32/P 0 31/D 0 31/B 0 2/P 0 31/D 0 31/"
     ))
 }
+
+/// A release that meets 9 and 10 gives 10.
+pub fn full_twice() -> String {
+    text(&format!("S 4294967232 0 1/{}L 0 1/T 0 1/L 0 1/", "L 0 1/".repeat(63)))
+}
+
+/// Slot 1 is dropped by task 0, and task 1's own entry is at its largest.
+pub fn slot_is_no_task() -> String {
+    text("S 0 0 2 0 0 0 4294967295/A 0 9/A 0 1/P 0 1/L 0 1/D 0 1/L 1 1/")
+}

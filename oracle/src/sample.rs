@@ -45,7 +45,7 @@ fn options(clocks: bool) -> Options {
 }
 
 /// The known scripts, then generated ones, so that together they reach every situation several times; then
-/// those with starting clocks, and the one that fills the queue.
+/// those with starting clocks, and a few that fill what is there to fill.
 pub fn chosen() -> Vec<Recorded> {
     let mut chosen = Chosen::default();
     let known = known::KNOWN.iter().map(|(_, script)| known::text(script));
@@ -73,6 +73,8 @@ pub fn chosen() -> Vec<Recorded> {
     chosen.sample.extend(spare.into_iter().take(missing));
     chosen.sample.extend(chosen_with_clocks());
     chosen.sample.push(record(known::full_queue(), false).0);
+    chosen.sample.push(record(known::full_twice(), false).0);
+    chosen.sample.push(record(known::slot_is_no_task(), true).0);
     chosen.sample
 }
 
