@@ -30,7 +30,10 @@ fn main() -> ExitCode {
     let mut words = arguments.iter().map(String::as_str).peekable();
     let command = words.next_if(|word| !word.starts_with("--"));
     let done = match command {
-        None => Flags::read(words).and_then(|flags| run_script(&flags)),
+        None => unless_unobserved().and_then(|()| run_script(&Flags::read(words)?)),
+        Some("gen" | "soak" | "sample" | "check") if cfg!(feature = "unobserved") => {
+            unless_unobserved().map(|()| ExitCode::SUCCESS)
+        }
         Some("gen") => unless_faulty().and_then(|()| generate(&Flags::read(words)?)),
         Some("soak") => unless_faulty().and_then(|()| run_soak(&Flags::read(words)?)),
         Some("compare") => unless_faulty().and_then(|()| {
@@ -91,6 +94,14 @@ fn unless_faulty() -> Result<(), String> {
     match fault() {
         Some(name) => Err(format!("FAULT {name}: this build carries a deliberate fault")),
         None => Ok(()),
+    }
+}
+
+/// A build that observes nothing can only be measured.
+fn unless_unobserved() -> Result<(), String> {
+    match cfg!(feature = "unobserved") {
+        true => Err("this build observes nothing: it has `workloads` and `bench` alone".to_string()),
+        false => Ok(()),
     }
 }
 

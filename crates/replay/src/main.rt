@@ -1,7 +1,7 @@
 // Runs the recorded scripts, NNN.script, and holds the whole state after each line to what the Rust did, NNN.state. A script whose first
 // line has starting clocks is NNN.clocks.
 use libc::STDOUT_FILENO;
-use showing::Walk;
+use walking::Walk;
 
 // What was compared.
 struct Tally {
@@ -98,7 +98,7 @@ fn tell(number: u32, line: u64, want: &[u8], from: usize, got: &[u8], end: usize
 }
 
 fn begun(clocks: bool) -> Progress {
-    let walk = showing::begin(0, clocks);
+    let walk = walking::begin(0, clocks);
     Progress {
         walk,
         line: 1,
@@ -111,7 +111,7 @@ fn begun(clocks: bool) -> Progress {
 fn next(got: &mut [u8], script: &[u8], r: Progress) -> Progress {
     let mut walk = r.walk;
     walk.end = 0;
-    let after = showing::walk_on(got, script, walk);
+    let after = walking::walk_on(got, script, walk);
     Progress {
         walk: after,
         line: r.line,

@@ -129,11 +129,11 @@ impl Request {
 pub fn place(x: Slot) -> usize
     ensures { λ r. ⌜ (r < slotCount) × (x .0 < slotCount → r ≡ x .0) ⌝ }
 {
-    let i = x.0 as usize;
-    if 32 <= i {
+    let k = x.0 as usize;
+    if 32 <= k {
         return 0;
     }
-    i
+    k
 }
 
 impl Requests {

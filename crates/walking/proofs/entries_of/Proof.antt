@@ -1,9 +1,9 @@
--- `showing::entries_of`: 16 times 16 entries at most.
+-- `walking::entries_of`: 16 times 16 entries at most.
 use native.Mathlib.Nat.{mul-le-mul}
 use native.Mathlib.Omega.{arith}
 use borrow.Author.Needs.{needs}
-use Rattle.showing.proofs.entries_of.Statement.{statement}
-use Rattle.showing.proofs.entries_of.Tie as tie
+use Rattle.walking.proofs.entries_of.Statement.{statement}
+use Rattle.walking.proofs.entries_of.Tie as tie
 
 mul-result : tie.Need-mul-result
 mul-result c =

@@ -1,10 +1,10 @@
--- `showing::start_on`: a part of a list that is long enough has as many entries as asked.
+-- `walking::start_on`: a part of a list that is long enough has as many entries as asked.
 use lib.Seq.{length-take-le}
 use mathlib.Core.Path.{sym}
 use native.Mathlib.Omega.{arith}
 use borrow.Author.Needs.{needs}
-use Rattle.showing.proofs.start_on.Statement.{statement}
-use Rattle.showing.proofs.start_on.Tie as tie
+use Rattle.walking.proofs.start_on.Statement.{statement}
+use Rattle.walking.proofs.start_on.Tie as tie
 
 slice-aggregate-start-with : tie.Need-slice-aggregate-start-with
 slice-aggregate-start-with c = sym (length-take-le _ _ (omega arith))

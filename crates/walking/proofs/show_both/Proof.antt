@@ -1,10 +1,10 @@
--- `showing::show_both`: a part of a line that is long enough is as long as asked.
+-- `walking::show_both`: a part of a line that is long enough is as long as asked.
 use lib.Seq.{length-take-le}
 use mathlib.Core.Path.{sym}
 use native.Mathlib.Omega.{arith}
 use borrow.Author.Needs.{needs}
-use Rattle.showing.proofs.show_both.Statement.{statement}
-use Rattle.showing.proofs.show_both.Tie as tie
+use Rattle.walking.proofs.show_both.Statement.{statement}
+use Rattle.walking.proofs.show_both.Tie as tie
 
 show-plain-requires : tie.Need-show-plain-requires
 show-plain-requires c κs = search needs

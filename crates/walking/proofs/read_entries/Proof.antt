@@ -1,9 +1,9 @@
--- `showing::read_entries`: the turns that are left; only the length of the list is kept.
+-- `walking::read_entries`: the turns that are left; only the length of the list is kept.
 use borrow.Author.Needs.{needs}
 use lib.ListN.{length}
 use mathlib.Core.Path.{_≡_}
-use Rattle.showing.proofs.read_entries.Statement.{statement}
-use Rattle.showing.proofs.read_entries.Tie as tie
+use Rattle.walking.proofs.read_entries.Statement.{statement}
+use Rattle.walking.proofs.read_entries.Tie as tie
 
 abbrev Inv-loop : tie.InvT-loop
 Inv-loop line from out₀ e₀ turns₀ out e turns = length out ≡ length out₀
