@@ -2,6 +2,7 @@
 
 use crate::generator::{self, Wish};
 use crate::semtrace::{run_watched, Count, Options};
+use crate::step::SLOTS;
 use std::io::{self, Read, Write};
 use std::panic::{self, AssertUnwindSafe};
 use std::process::{Command, Stdio};
@@ -175,9 +176,19 @@ fn blocks(printed: &str) -> Vec<String> {
     blocks
 }
 
+/// The smallest script that still differs: no line can go, and no request, with the later slots counted
+/// down by one.
+pub fn cut_down(script: &str, differs: &mut dyn FnMut(&str) -> io::Result<bool>) -> io::Result<String> {
+    let mut smallest = without_lines(script, differs)?;
+    while let Some(fewer) = without_a_request(&smallest, differs)? {
+        smallest = without_lines(&fewer, differs)?;
+    }
+    Ok(smallest)
+}
+
 /// The script without every line that it can spare: whole stretches first, then line by line, until no
 /// single line can go. The first line stays.
-pub fn cut_down(script: &str, differs: &mut dyn FnMut(&str) -> io::Result<bool>) -> io::Result<String> {
+fn without_lines(script: &str, differs: &mut dyn FnMut(&str) -> io::Result<bool>) -> io::Result<String> {
     let mut lines: Vec<&str> = script.split_inclusive('\n').collect();
     let mut stretch = lines.len().max(1);
     loop {
@@ -196,5 +207,40 @@ pub fn cut_down(script: &str, differs: &mut dyn FnMut(&str) -> io::Result<bool>)
             return Ok(lines.concat());
         }
         stretch = (stretch / 2).max(1);
+    }
+}
+
+/// The script without the line that makes some request, if it still differs once the slots above that
+/// request's are counted down in the lines behind.
+fn without_a_request(script: &str, differs: &mut dyn FnMut(&str) -> io::Result<bool>) -> io::Result<Option<String>> {
+    let lines: Vec<&str> = script.split_inclusive('\n').collect();
+    for (number, line) in lines.iter().enumerate().skip(1) {
+        if !line.starts_with(['A', 'B', 'R', 'U']) {
+            continue;
+        }
+        for slot in 0..SLOTS {
+            let behind = lines[number + 1..].iter().map(|line| counted_down(line, slot));
+            let fewer: String = lines[..number]
+                .iter()
+                .map(|line| line.to_string())
+                .chain(behind)
+                .collect();
+            if differs(&fewer)? {
+                return Ok(Some(fewer));
+            }
+        }
+    }
+    Ok(None)
+}
+
+/// A poll or a drop of a slot above `gone` is one of the slot below it.
+fn counted_down(line: &str, gone: usize) -> String {
+    let fields: Vec<&str> = line.trim_end().split(' ').collect();
+    match fields[..] {
+        [letter @ ("P" | "D"), actor, slot] => match slot.parse::<usize>() {
+            Ok(slot) if slot > gone => format!("{letter} {actor} {}\n", slot - 1),
+            _ => line.to_string(),
+        },
+        _ => line.to_string(),
     }
 }

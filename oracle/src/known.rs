@@ -73,6 +73,25 @@ pub const KNOWN: &[(&str, &str)] = &[
     ("last line unended", "S 1 0 2/T 0 1"),
 ];
 
+/// Scripts whose first line has starting clocks.
+pub const KNOWN_WITH_CLOCKS: &[(&str, &str)] = &[
+    (
+        "k14: own entry at its largest",
+        "S 1 0 2 4294967295 0 0 0/L 0 1/T 0 1/A 0 1/P 0 0/L 0 0/L 1 1/T 1 1/D 0 0/",
+    ),
+    (
+        "an entry that reaches its largest",
+        "U 2 0 2 4294967294 7 3 0/T 0 3/T 0 1/T 1 2/",
+    ),
+    (
+        "rows of their own, and the maker's in the first batch",
+        "S 2 1 3 1 2 3 4 5 6 7 8 9/T 0 1/A 2 1/P 1 0/T 2 1/",
+    ),
+    ("no maker", "U 1 - 2 5 6 7 8/L 1 1/T 0 2/"),
+    ("a row short", "S 1 0 2 0 0 0/T 0 1/"),
+    ("an entry that is no number", "S 1 0 2 0 x 0 0/T 0 1/"),
+];
+
 /// The text of a known script.
 pub fn text(script: &str) -> String {
     script.replace('/', "\n")
@@ -85,4 +104,23 @@ pub fn k16() -> [String; 2] {
         text(&format!("S 0 0 2/A 1 1/P 1 0/L 0 1/{batches}L 0 1/D 0 0/T 0 1/L 0 1/")),
         text(&format!("S 0 0 1/{}", "A 0 1/".repeat(33))),
     ]
+}
+
+/// All 32 slots queued, then granted by one release; and what only the last slot shows.
+pub fn full_queue() -> String {
+    let makes = "A 0 1/".repeat(32);
+    let polls: String = (0..32).map(|slot| format!("P 0 {slot}/")).collect();
+    text(&format!(
+        "S 0 0 1/{makes}{polls}L 0 32/P 0 31/D 0 31/B 0 2/P 0 31/D 0 31/"
+    ))
+}
+
+/// A release that meets 9 and 10 gives 10.
+pub fn full_twice() -> String {
+    text(&format!("S 4294967232 0 1/{}L 0 1/T 0 1/L 0 1/", "L 0 1/".repeat(63)))
+}
+
+/// Slot 1 is dropped by task 0, and task 1's own entry is at its largest.
+pub fn slot_is_no_task() -> String {
+    text("S 0 0 2 0 0 0 4294967295/A 0 9/A 0 1/P 0 1/L 0 1/D 0 1/L 1 1/")
 }

@@ -17,22 +17,40 @@ const SEEDS: u64 = 12_000;
 /// Larger texts are taken only for what nothing else reaches.
 const LARGE: usize = 6_000;
 
-const OPTIONS: Options = Options {
-    state: true,
-    clocks: false,
-};
+/// So many generated scripts have starting clocks.
+const WITH_CLOCKS: usize = 20;
+
+/// The endings of scripts without starting clocks and with them.
+const PLAIN: &str = "script";
+const CLOCKS: &str = "clocks";
 
 pub struct Recorded {
     pub script: String,
     pub state: String,
+    pub clocks: bool,
 }
 
-/// The known scripts, then generated ones, so that together they reach every situation several times.
+impl Recorded {
+    fn ending(&self) -> &'static str {
+        if self.clocks {
+            CLOCKS
+        } else {
+            PLAIN
+        }
+    }
+}
+
+fn options(clocks: bool) -> Options {
+    Options { state: true, clocks }
+}
+
+/// The known scripts, then generated ones, so that together they reach every situation several times; then
+/// those with starting clocks, and a few that fill what is there to fill.
 pub fn chosen() -> Vec<Recorded> {
     let mut chosen = Chosen::default();
     let known = known::KNOWN.iter().map(|(_, script)| known::text(script));
     for script in known.chain(known::k16()) {
-        let (recorded, tally) = record(script);
+        let (recorded, tally) = record(script, false);
         chosen.take(recorded, &tally);
     }
     let fewest = chosen.sample.len() + FEWEST;
@@ -43,7 +61,7 @@ pub fn chosen() -> Vec<Recorded> {
             lines: 10 + (seed as usize * 7) % 31,
             clocks: false,
         };
-        let (recorded, tally) = record(generator::script(wish));
+        let (recorded, tally) = record(generator::script(wish), false);
         let small = recorded.state.len() <= LARGE;
         if chosen.wants(&tally, if small { WANTED } else { 1 }) {
             chosen.take(recorded, &tally);
@@ -53,7 +71,30 @@ pub fn chosen() -> Vec<Recorded> {
     }
     let missing = fewest.saturating_sub(chosen.sample.len());
     chosen.sample.extend(spare.into_iter().take(missing));
+    chosen.sample.extend(chosen_with_clocks());
+    chosen.sample.push(record(known::full_queue(), false).0);
+    chosen.sample.push(record(known::full_twice(), false).0);
+    chosen.sample.push(record(known::slot_is_no_task(), true).0);
     chosen.sample
+}
+
+/// The known scripts with starting clocks, then the first generated ones that are not large.
+fn chosen_with_clocks() -> Vec<Recorded> {
+    let known = known::KNOWN_WITH_CLOCKS.iter().map(|(_, script)| known::text(script));
+    let wish = |seed| Wish {
+        seed,
+        lines: 40,
+        clocks: true,
+    };
+    let generated = (0..SEEDS).map(|seed| record(generator::script(wish(seed)), true).0);
+    known
+        .map(|script| record(script, true).0)
+        .chain(
+            generated
+                .filter(|recorded| recorded.state.len() <= LARGE)
+                .take(WITH_CLOCKS),
+        )
+        .collect()
 }
 
 #[derive(Default)]
@@ -79,15 +120,16 @@ impl Chosen {
     }
 }
 
-fn record(script: String) -> (Recorded, Tally) {
+fn record(script: String, clocks: bool) -> (Recorded, Tally) {
     let (mut state, mut tally) = (String::new(), Tally::default());
-    run_watched(&mut state, script.as_bytes(), OPTIONS, &mut |happening| {
+    run_watched(&mut state, script.as_bytes(), options(clocks), &mut |happening| {
         tally.add(happening)
     });
-    (Recorded { script, state }, tally)
+    (Recorded { script, state, clocks }, tally)
 }
 
-/// Write the sample to a directory, as `NNN.script` and `NNN.state`, in the place of what was there.
+/// Write the sample to a directory, as `NNN.script` or `NNN.clocks`, and `NNN.state`, in the place of what
+/// was there.
 pub fn write(directory: &Path) -> io::Result<usize> {
     fs::create_dir_all(directory)?;
     for path in scripts(directory)? {
@@ -96,7 +138,10 @@ pub fn write(directory: &Path) -> io::Result<usize> {
     }
     let sample = chosen();
     for (number, recorded) in sample.iter().enumerate() {
-        fs::write(directory.join(format!("{number:03}.script")), &recorded.script)?;
+        fs::write(
+            directory.join(format!("{number:03}.{}", recorded.ending())),
+            &recorded.script,
+        )?;
         fs::write(directory.join(format!("{number:03}.state")), &recorded.state)?;
     }
     Ok(sample.len())
@@ -106,7 +151,10 @@ pub fn write(directory: &Path) -> io::Result<usize> {
 fn scripts(directory: &Path) -> io::Result<Vec<PathBuf>> {
     let entries = fs::read_dir(directory)?.map(|entry| Ok(entry?.path()));
     let mut paths = entries.collect::<io::Result<Vec<PathBuf>>>()?;
-    paths.retain(|path| path.extension().is_some_and(|extension| extension == "script"));
+    paths.retain(|path| {
+        path.extension()
+            .is_some_and(|ending| ending == PLAIN || ending == CLOCKS)
+    });
     paths.sort();
     Ok(paths)
 }
@@ -125,7 +173,8 @@ pub fn check(directory: &Path) -> io::Result<Checked> {
     for path in scripts(directory)? {
         let script = fs::read(&path)?;
         let recorded = fs::read_to_string(path.with_extension("state"))?;
-        let printed = panic::catch_unwind(|| crate::semtrace::run(&script, OPTIONS).0);
+        let clocks = path.extension().is_some_and(|ending| ending == CLOCKS);
+        let printed = panic::catch_unwind(|| crate::semtrace::run(&script, options(clocks)).0);
         checked.scripts += 1;
         if printed.ok() != Some(recorded) {
             let name = path.file_stem().unwrap_or_default();

@@ -15,6 +15,14 @@ fn only_what_differs_is_left() {
 }
 
 #[test]
+fn a_request_goes_with_its_slot_number() {
+    let polls_the_bypassable = ["A 0 1\nB 0 1\nP 0 1\n", "S 0 0 1\nB 0 1\nP 0 0\n"];
+    let differs = |script: &str| polls_the_bypassable.iter().any(|text| script.ends_with(text));
+    let smallest = cut_down("S 0 0 1\nA 0 1\nB 0 1\nP 0 1\n", &mut |script| Ok(differs(script)));
+    assert_eq!(smallest.expect("nothing is read"), "S 0 0 1\nB 0 1\nP 0 0\n");
+}
+
+#[test]
 fn the_first_line_stays() {
     let smallest = cut_down("0\n1\n2", &mut |_| Ok(true)).expect("nothing is read");
     assert_eq!(smallest, "0\n");

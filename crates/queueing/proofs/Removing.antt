@@ -1,5 +1,5 @@
 -- The front of the queue, and a queued request that goes.
-use Prim.Native.Nat.{ℕ, _≤_, _<_}
+use Prim.Native.Nat.{ℕ}
 use native.Mathlib.Omega.{arith}
 use mathlib.Core.Path.{_≡_, refl, sym, ap, subst, _∙_}
 use mathlib.Core.Bool.{Bool, true, false, cond, not, _&&_, _||_}
@@ -14,11 +14,11 @@ use Rattle.rules.specs.State.{State, strict}
 use Rattle.rules.specs.Scan.{Granting as GrantingRule, leave, scan}
 use Rattle.rules.specs.Steps.{isFirst, frontBypassable, ungranted, dropQueued}
 use Rattle.request.specs.declared.Request.{Request}
-use Rattle.request.specs.View.{requestOf, Stands}
+use Rattle.request.specs.View.{Stands}
 use Rattle.grants.specs.declared.Grants.{Grants}
-use Rattle.grants.specs.View.{grantsOf, Holds}
+use Rattle.grants.specs.View.{Holds}
 use Rattle.state.specs.declared.BatchSemaphore.{BatchSemaphore}
-use Rattle.state.specs.View.{view, Shaped, Shows}
+use Rattle.state.specs.View.{view, Shows}
 use Rattle.queueing.specs.declared.Granting.{Granting}
 use Rattle.queueing.specs.View.{Granted, frontAs}
 

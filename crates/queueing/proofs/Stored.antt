@@ -2,12 +2,11 @@
 use Prim.Native.Nat.{ℕ, _≤_, _<_}
 use native.Mathlib.Decide.{decLt}
 use native.Mathlib.Omega.{arith}
-use mathlib.Core.Path.{_≡_, refl, sym, ap, _∙_}
-use mathlib.Core.Bool.{Bool, true, false, cond}
-use mathlib.Core.List.{List, [], _∷_, _++_}
+use mathlib.Core.Path.{_≡_, sym, ap, _∙_}
+use mathlib.Core.Bool.{true, false}
+use mathlib.Core.List.{List}
 use mathlib.Core.Option.{Option, none}
 use borrow.Author.Tests.{le-leb, lt-leb}
-use lib.Dec.{leb}
 use lib.ListN.{length, getD, set}
 use lib.Seq.{getD-set-same, set-set, set-out}
 use Rattle.rules.specs.declared.Slot.{Slot}
@@ -17,7 +16,7 @@ use Rattle.rules.specs.Task.{Task as TaskRule, noTask, isFinished, unblocked, w
 use Rattle.rules.specs.Request.{Request as RequestRule, isBypassable, queuedAs, held}
 use Rattle.rules.specs.State.{State, Permits, stock, requestAt}
 use Rattle.rules.specs.Taking.{taking, takeQueued}
-use Rattle.rules.specs.Scan.{without, leave, queueBack, queueFront, verdict, grantQueued}
+use Rattle.rules.specs.Scan.{without, verdict, grantQueued}
 use Rattle.permits.specs.declared.Acquired.{Acquired}
 use Rattle.permits.specs.View.{permitsOf, Took}
 use Rattle.task.specs.declared.Task.{Task}
@@ -27,7 +26,7 @@ use Rattle.waiters.specs.declared.Waiters.{Waiters}
 use Rattle.waiters.specs.View.{waitersOf, reservationOf, Holds}
 use Rattle.request.specs.declared.Request.{Request}
 use Rattle.request.specs.declared.Requests.{Requests}
-use Rattle.request.specs.View.{requestOf, slotsOf, altered, Stands}
+use Rattle.request.specs.View.{slotsOf, altered, Stands}
 use Rattle.state.specs.declared.BatchSemaphore.{BatchSemaphore}
 use Rattle.state.specs.View.{view, Shaped, Shows}
 use Rattle.queueing.specs.View.{verdictAs}

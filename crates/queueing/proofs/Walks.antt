@@ -1,9 +1,9 @@
 -- A scan's walk, a turn at a time: at place i of the queue, the walk over the rest from here is the scan from the start.
-use Prim.Native.Nat.{ℕ, zero, suc, _+_, _-_, _≤_, _<_}
+use Prim.Native.Nat.{ℕ, suc, _+_, _-_, _≤_, _<_}
 use native.Mathlib.Numerals.{add-one}
 use native.Mathlib.Omega.{arith}
 use mathlib.Core.Path.{_≡_, refl, sym, ap, subst, _∙_}
-use mathlib.Core.Bool.{Bool, true, false}
+use mathlib.Core.Bool.{false}
 use mathlib.Core.List.{List, [], _∷_, _++_}
 use lib.ListN.{length, getD, drop, drop-of-length-le, length-append, length-drop}
 use lib.Seq.{drop-cons, drop-at}
@@ -14,7 +14,7 @@ use Rattle.rules.specs.declared.Verdict.the-variants.{Leaves, Fits, Passed, End
 use Rattle.rules.specs.Sizes.{slotCount}
 use Rattle.rules.specs.State.{State, stock, askedAt}
 use Rattle.rules.specs.Broken.{twice}
-use Rattle.rules.specs.Scan.{Granting, without, verdict, grantQueued, queueGrant, leave, turn, walk, scan}
+use Rattle.rules.specs.Scan.{without, verdict, grantQueued, queueGrant, leave, turn, walk, scan}
 use Rattle.rules.specs.Sound.{Sound}
 use Rattle.rules.proofs.Queues.{once-middle, without-middle}
 use Rattle.rules.proofs.KeepsScan.{granted-queue, Says, verdict-says, Walking, walking, walking-leaves, walking-fits, walking-passed}

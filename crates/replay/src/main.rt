@@ -1,6 +1,7 @@
-// Runs the recorded scripts, NNN.script, and holds the whole state after each line to what the Rust did, NNN.state.
+// Runs the recorded scripts, NNN.script, and holds the whole state after each line to what the Rust did, NNN.state. A script whose first
+// line has starting clocks is NNN.clocks.
 use libc::STDOUT_FILENO;
-use showing::Walk;
+use walking::Walk;
 
 // What was compared.
 struct Tally {
@@ -96,8 +97,8 @@ fn tell(number: u32, line: u64, want: &[u8], from: usize, got: &[u8], end: usize
     write_part(got, 0, end);
 }
 
-fn begun() -> Progress {
-    let walk = showing::begin(0, false);
+fn begun(clocks: bool) -> Progress {
+    let walk = walking::begin(0, clocks);
     Progress {
         walk,
         line: 1,
@@ -110,7 +111,7 @@ fn begun() -> Progress {
 fn next(got: &mut [u8], script: &[u8], r: Progress) -> Progress {
     let mut walk = r.walk;
     walk.end = 0;
-    let after = showing::walk_on(got, script, walk);
+    let after = walking::walk_on(got, script, walk);
     Progress {
         walk: after,
         line: r.line,
@@ -141,8 +142,8 @@ fn turn(got: &mut [u8], script: &[u8], want: &[u8], r: Progress) -> Progress {
 }
 
 // Runs a script as long as all is the same. No script has more lines than the turns.
-fn run(got: &mut [u8], script: &[u8], want: &[u8]) -> Progress {
-    let mut r = begun();
+fn run(got: &mut [u8], script: &[u8], want: &[u8], clocks: bool) -> Progress {
+    let mut r = begun(clocks);
     let mut turns: u32 = 65540;
     while 0 < turns {
         r = turn(got, script, want, r);
@@ -166,9 +167,23 @@ fn counted(t: Tally, r: Progress) -> Tally {
     }
 }
 
+// A script that was read: how many bytes, whether its first line may have starting clocks, and whether there was one.
+struct Script {
+    pub bytes: usize,
+    pub clocks: bool,
+    pub found: bool,
+}
+
 // Runs a script and counts; the first difference of all is told.
-fn compare(number: u32, got: &mut [u8], script: &[u8], want: &[u8], t: Tally) -> Tally {
-    let r = run(got, script, want);
+fn compare(
+    number: u32,
+    got: &mut [u8],
+    script: &[u8],
+    clocks: bool,
+    want: &[u8],
+    t: Tally,
+) -> Tally {
+    let r = run(got, script, want, clocks);
     let mut out = counted(t, r);
     if r.same {
         return out;
@@ -184,14 +199,15 @@ fn compare_parts(
     number: u32,
     got: &mut [u8],
     script: &[u8],
-    n: usize,
+    read: Script,
     want: &[u8],
     m: usize,
     t: Tally,
 ) -> Tally {
+    let n = read.bytes;
     if n <= script.len() {
         if m <= want.len() {
-            return compare(number, got, &script[..n], &want[..m], t);
+            return compare(number, got, &script[..n], read.clocks, &want[..m], t);
         }
     }
     t
@@ -236,6 +252,29 @@ fn read_numbered(number: u32, ending: &[u8], buf: &mut [u8]) -> File {
     File::Bytes(n)
 }
 
+fn script_read(file: File, clocks: bool) -> Script {
+    match file {
+        File::Bytes(bytes) => Script {
+            bytes,
+            clocks,
+            found: true,
+        },
+        File::Missing => Script {
+            bytes: 0,
+            clocks,
+            found: false,
+        },
+    }
+}
+
+fn read_script(number: u32, script: &mut [u8]) -> Script {
+    let plain = script_read(read_numbered(number, b".script", script), false);
+    if plain.found {
+        return plain;
+    }
+    script_read(read_numbered(number, b".clocks", script), true)
+}
+
 // How many bytes of text were recorded: none where there is no file.
 fn read_states(number: u32, want: &mut [u8]) -> usize {
     match read_numbered(number, b".state", want) {
@@ -251,14 +290,15 @@ struct Told {
 }
 
 fn replay_one(number: u32, script: &mut [u8], want: &mut [u8], got: &mut [u8], t: Tally) -> Told {
-    let File::Bytes(n) = read_numbered(number, b".script", script) else {
+    let read = read_script(number, script);
+    if !read.found {
         return Told {
             tally: t,
             on: false,
         };
-    };
+    }
     let m = read_states(number, want);
-    let tally = compare_parts(number, got, script, n, want, m, t);
+    let tally = compare_parts(number, got, script, read, want, m, t);
     Told { tally, on: true }
 }
 

@@ -1,7 +1,7 @@
 // Runs scripts and prints the whole state after each line, as `oracle --state` does. With no argument standard input is one script. With
 // any, it is many: before each stand the two bytes of its length, the high one first, and behind what is printed for it a line `end`;
 // and a first line may have starting clocks, as for `oracle --state --clocks`.
-use showing::Walk;
+use walking::Walk;
 
 // A buffer with so much in it is written out: the text for one line fits what is left of it.
 const FULL: usize = 32768;
@@ -25,7 +25,7 @@ fn emptied(buf: &[u8], at: usize) -> usize {
 }
 
 fn turn(buf: &mut [u8], script: &[u8], w: Walk) -> Walk {
-    let mut out = showing::walk_on(buf, script, w);
+    let mut out = walking::walk_on(buf, script, w);
     let end = emptied(buf, out.end);
     out.end = end;
     out
@@ -33,7 +33,7 @@ fn turn(buf: &mut [u8], script: &[u8], w: Walk) -> Walk {
 
 // Runs a script; the place in the buffer after what is not yet written out. No script has more lines than turns.
 fn run(buf: &mut [u8], at: usize, script: &[u8], clocks: bool) -> usize {
-    let mut w = showing::begin(at, clocks);
+    let mut w = walking::begin(at, clocks);
     let mut turns: u32 = 65540;
     while 0 < turns {
         w = turn(buf, script, w);

@@ -1,5 +1,4 @@
 -- A struct with one part stored anew shows the state with that part changed; and one change after another.
-use Prim.Native.Nat.{ℕ, _≤_}
 use native.Mathlib.Omega.{arith}
 use mathlib.Core.Path.{_≡_, refl, ap, _∙_}
 use mathlib.Core.List.{List}
@@ -7,7 +6,7 @@ use mathlib.Core.Option.{Option}
 use Rattle.rules.specs.declared.Slot.{Slot}
 use Rattle.rules.specs.Task.{Task}
 use Rattle.rules.specs.Request.{Request}
-use Rattle.rules.specs.State.{State, withQueue, withReservation, withTasks, withSlots}
+use Rattle.rules.specs.State.{State, withReservation, withTasks, withSlots}
 use Rattle.task.specs.declared.Tasks.{Tasks}
 use Rattle.task.specs.View.{Shows as ShowsTasks}
 use Rattle.waiters.specs.declared.Reservation.{Reservation}

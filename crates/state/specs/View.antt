@@ -1,5 +1,5 @@
 -- What the semaphore's struct stands for: a state of the rules. Places not in use are no part of it.
-use Prim.Native.Nat.{ℕ, _≤_}
+use Prim.Native.Nat.{_≤_}
 use mathlib.Core.Path.{_≡_}
 use Rattle.rules.specs.declared.Slot.{Slot}
 use Rattle.rules.specs.Sizes.{maxTasks, slotCount}

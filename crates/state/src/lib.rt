@@ -2,9 +2,8 @@
 // reads of it, which refuse nothing.
 ghost use mathlib.Core.Path.{_≡_};
 ghost use lib.ListN.{length};
-ghost use Rattle.rules.specs.State.{isStrict, strict as strictOf, available as availableOf, reserved as reservedOf, taskAt, inUse, requestAt};
+ghost use Rattle.rules.specs.State.{isStrict, strict as strictOf, available as availableOf, taskAt};
 ghost use Rattle.task.specs.View.{taskOf};
-ghost use Rattle.request.specs.View.{requestOf};
 ghost use Rattle.state.specs.View.{view, RequestRead};
 use permits::PermitsAvailable;
 use request::Request;

@@ -1,11 +1,10 @@
 -- Whether every queued request is Bypassable, looked at one after another; and the direct rule's tests.
 use Prim.Native.Nat.{ℕ, suc, _+_, _≤_, _<_}
 use native.Mathlib.Numerals.{add-one}
-use native.Mathlib.Omega.{arith}
 use mathlib.Core.Path.{_≡_, refl, sym, ap, _∙_}
 use mathlib.Core.Bool.{Bool, true, false, cond, not, _&&_, _||_}
 use mathlib.Core.List.{List, [], _∷_}
-use mathlib.Core.Option.{Option, none, some, Option·getD}
+use mathlib.Core.Option.{Option, none, some}
 use borrow.Author.Tests.{le-leb, lt-leb, not-true, not-false}
 use lib.Dec.{leb}
 use lib.ListN.{length, getD, drop, drop-of-length-le}
@@ -14,11 +13,11 @@ use Rattle.rules.specs.declared.Slot.{Slot}
 use Rattle.rules.specs.declared.Priority.{Priority}
 use Rattle.rules.specs.declared.Direct.{Direct}
 use Rattle.rules.specs.declared.Direct.the-variants.{Shut, NoPermits, Take}
-use Rattle.rules.specs.Request.{Request, noRequest, isBypassable, isFront}
+use Rattle.rules.specs.Request.{Request, isBypassable, isFront}
 use Rattle.rules.specs.State.{State, isSome, strict, stock}
 use Rattle.rules.specs.Taking.{allBypassable, direct}
 use Rattle.request.specs.declared.Request.{Request as RequestStruct}
-use Rattle.request.specs.View.{requestOf, Stands}
+use Rattle.request.specs.View.{Stands}
 use Rattle.state.specs.declared.BatchSemaphore.{BatchSemaphore}
 use Rattle.state.specs.View.{view}
 use Rattle.taking.specs.Parts.{everyBypassable}

@@ -1,13 +1,11 @@
 -- A taking put together from its parts.
 use Prim.Native.Nat.{ℕ, _≤_, _<_}
 use native.Mathlib.Omega.{arith}
-use mathlib.Core.Path.{_≡_, refl, sym, ap, _∙_}
-use mathlib.Core.List.{List}
+use mathlib.Core.Path.{_≡_, ap}
 use lib.ListN.{length, getD, set, length-map, length-take}
 use Rattle.rules.specs.declared.TaskId.{TaskId}
 use Rattle.rules.specs.Sizes.{width}
 use Rattle.rules.specs.Task.{Task as TaskRule, noTask, ticked, joined}
-use Rattle.rules.specs.State.{State, taskAt}
 use Rattle.rules.specs.Taking.{taking, takeAs}
 use Rattle.permits.specs.declared.Acquired.{Acquired}
 use Rattle.permits.specs.View.{permitsOf, Took}

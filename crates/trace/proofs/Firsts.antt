@@ -4,23 +4,18 @@ use native.Mathlib.Nat.{mul-le-mul}
 use native.Mathlib.Decide.{decLt}
 use native.Mathlib.Omega.{arith}
 use mathlib.Core.Path.{_≡_, refl, ap, sym, subst, _∙_}
-use mathlib.Core.Bool.{Bool, true, false, cond}
+use mathlib.Core.Bool.{true, false}
 use mathlib.Core.List.{List, [], _∷_, _++_}
 use mathlib.Core.Option.{Option, none, some}
 use borrow.Author.Tests.{lt-ltb, le-ltb}
-use lib.Dec.{ltb}
 use lib.ListN.{length, take, drop, replicate, length-replicate}
 use lib.Seq.{length-take-le}
 use Rattle.rules.specs.declared.TaskId.{TaskId}
 use Rattle.rules.specs.declared.Fairness.{Fairness}
-use Rattle.rules.specs.Sizes.{maxTasks}
-use Rattle.rules.specs.State.{State}
-use Rattle.rules.specs.Fresh.{Start, fresh, refuses12}
-use Rattle.rules.specs.Steps.{Outcome, quiet}
-use Rattle.rules.specs.Steps.Answer.{done}
+use Rattle.rules.specs.Fresh.{Start, refuses12}
 use Rattle.rules.specs.Runs.{start}
 use Rattle.rules.specs.Text.{Line, lines}
-use Rattle.rules.specs.Script.{startWith, startOf, said, outcomeText, trace, traceFrom, program, longest, printed}
+use Rattle.rules.specs.Script.{startWith, startOf, trace, traceFrom, program}
 use Rattle.rules.proofs.Laws.{refused-start}
 use Rattle.rules.proofs.Scripts.{many-tasks, long-printed, short-printed}
 use Rattle.text.specs.Reading.{Within, NextIs}

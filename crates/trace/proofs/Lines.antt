@@ -6,11 +6,9 @@ use mathlib.Core.List.{List, [], _∷_}
 use mathlib.Core.Option.{Option, none, some}
 use lib.ListN.{length}
 use Rattle.rules.specs.declared.Step.{Step}
-use Rattle.rules.specs.State.{State}
 use Rattle.rules.specs.Sound.{Sound}
 use Rattle.rules.specs.Steps.{Outcome, quiet}
 use Rattle.rules.specs.Steps.Answer.{done}
-use Rattle.rules.specs.Runs.{step}
 use Rattle.rules.specs.Script.{outcomeText, stepOf, printing, Printing}
 use Rattle.rules.proofs.KeepsSteps.{sound-step}
 use Rattle.text.specs.Writing.{Appended}
@@ -20,7 +18,6 @@ use Rattle.broken.specs.Broken.{Fit}
 use Rattle.broken.proofs.Unbroken.{unbroken-shaped, fit-unbroken}
 use Rattle.grants.specs.declared.Grants.{Grants}
 use Rattle.grants.specs.View.{grantsOf, Holds}
-use Rattle.replies.specs.declared.Reply.{Reply}
 use Rattle.replies.specs.Answers.{answerOf}
 use Rattle.outcomes.specs.declared.Stepped.{Stepped}
 use Rattle.outcomes.specs.View.{outcomeOf}

@@ -2,9 +2,11 @@
 use Prim.Native.Nat.{ℕ, _+_, _*_, _-_, _≤_, _<_}
 use native.Mathlib.Omega.{arith}
 use mathlib.Core.Path.{_≡_, refl, ap, sym, subst, _∙_}
-use mathlib.Core.Bool.{true, false}
+use mathlib.Core.Bool.{Bool, true, false}
 use mathlib.Core.List.{List, [], _∷_, _++_, append-assoc, append-nil}
-use mathlib.Core.Option.{Option, none, some}
+use mathlib.Core.Option.{Option, none}
+use borrow.Author.Tests.{ltb-true, ltb-false}
+use lib.Dec.{ltb}
 use lib.ListN.{length, take, drop, length-take, length-drop}
 use Rattle.rules.specs.declared.Step.{Step}
 use Rattle.rules.specs.State.{State}
@@ -13,7 +15,6 @@ use Rattle.rules.specs.Script.{stepOf, said, printing, trace}
 use Rattle.rules.proofs.Parts.{no-line}
 use Rattle.rules.proofs.Scripts.{trace-done}
 use Rattle.text.specs.Reading.{Within, NextIs}
-use Rattle.text.specs.Writing.{Appended}
 use Rattle.text.specs.declared.NextLine.{NextLine}
 use Rattle.text.specs.declared.NextLine.the-variants.{Ended, Unended, End}
 use Rattle.text.proofs.Buffer.{appended-first, appended-length}
@@ -65,9 +66,6 @@ module _ (script : List ℕ) (at e : ℕ) (a : at ≤ e) (b : e < length script)
   bytes-length : length (take (e - at) (drop at script)) ≡ e - at
   bytes-length = rw (length-take, length-drop) (omega arith)
 
-  pub line-fits : (n m : ℕ) → n + 45 * (e + 1 - at) ≤ m → n + 45 * (length (take (e - at) (drop at script)) + 1) ≤ m
-  line-fits n m h = omega (arith, bytes-length)
-
   pub line-turned : (o : Option Step) (s : BatchSemaphore) (old new : List ℕ) (n next : ℕ) (t : Turn) → Turned (45 * (length (take (e - at) (drop at script)) + 1)) o s old n next new t → Turned (45 * (e + 1 - at)) o s old n next new t
   line-turned o s old new n next t q =
       let k : 45 * (length (take (e - at) (drop at script)) + 1) ≡ 45 * (e + 1 - at) = omega (arith, bytes-length) in
@@ -91,10 +89,10 @@ module _ (script old new : List ℕ) (at n : ℕ) (s : BatchSemaphore) (t : Turn
 
   pub unended-on : l ≡ Unended → Turned 45 none s old n (length script) new t → Onward script at s old n new t
   unended-on p q =
-      turned-on script old new at n 45 (length script) s none t (record { content = drop at script; ended = false }) refl (rw p at is .shows ∙ ap (λ (ls : List Line). record { content = drop at script; ended = false } ∷ ls) (sym none-left)) (omega arith) before (omega arith) q
+      turned-on script old new at n 45 (length script) s none t (record { content = drop at script; ended = false }) refl (rw p at is .shows ∙ ap (λ (ls : List Line). record { content = drop at script; ended = false } ∷ ls) (sym nothing-left)) (omega arith) before (omega arith) q
     where
-      none-left : lines (drop (length script) script) ≡ []
-      none-left = no-line script (length script) (omega arith)
+      nothing-left : lines (drop (length script) script) ≡ []
+      nothing-left = no-line script (length script) (omega arith)
 
 -- before the end there is a line
 pub no-end : (script : List ℕ) (at : ℕ) (l : NextLine) → NextIs script at l → at < length script → l ≡ End → ⊥
@@ -106,6 +104,12 @@ behind-then {old} {n} {xs} {ys = ys} a b =
     record { stands = b .stands ∙ rw (a .stands) (append-assoc (take n old) xs ys); fits = b .fits }
 
 -- before the first turn, and behind the last
+pub left-before : (b : Bool) (at : ℕ) (s : List ℕ) → b ≡ ltb at (length s) → b ≡ true → at < length s
+left-before b at s e h = ltb-true at (length s) (sym e ∙ h)
+
+pub none-left : (b : Bool) (at : ℕ) (s : List ℕ) → b ≡ ltb at (length s) → b ≡ false → length s ≤ at
+none-left b at s e h = ltb-false at (length s) (sym e ∙ h)
+
 module _ (script old out : List ℕ) (from start at n : ℕ) (first s : BatchSemaphore) where
   pub turns-end : take n out ++ trace (view s) (lines (drop at script)) ≡ take start old ++ trace (view first) (lines (drop from script)) → n + 45 * (length script - at) ≤ length out → length script ≤ at
       → Behind old start (trace (view first) (lines (drop from script))) out n

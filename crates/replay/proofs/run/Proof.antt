@@ -6,10 +6,10 @@ use Rattle.replay.proofs.run.Statement.{statement}
 use Rattle.replay.proofs.run.Tie as tie
 
 abbrev Inv-loop : tie.InvT-loop
-Inv-loop got₀ script want r₀ turns₀ got r turns = length got ≡ length got₀
+Inv-loop got₀ script want clocks r₀ turns₀ got r turns = length got ≡ length got₀
 
 abbrev μ-loop : tie.MeasureT-loop
-μ-loop got₀ script want r₀ turns₀ got r turns = turns
+μ-loop got₀ script want clocks r₀ turns₀ got r turns = turns
 
 begun-requires : tie.Need-begun-requires Inv-loop μ-loop
 begun-requires c κs = search needs
