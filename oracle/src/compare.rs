@@ -25,6 +25,8 @@ const OPTIONS: Options = Options {
 pub struct Compared {
     pub scripts: u64,
     pub with_clocks: u64,
+    /// Those that have every line that was wished for; the others end early.
+    pub whole: u64,
     pub lines: usize,
     pub bytes: usize,
     pub count: Count,
@@ -56,7 +58,9 @@ pub fn compare(program: &str, wish: Wish, scripts: u64) -> io::Result<Compared> 
         let same = printed_alike(&rust, &printed);
         compared.scripts += same as u64;
         compared.with_clocks += (seed..until).take(same).filter(|seed| has_clocks(*seed)).count() as u64;
-        compared.lines += texts[..same].iter().map(|text| text.lines().count()).sum::<usize>();
+        let lengths: Vec<usize> = texts[..same].iter().map(|text| text.lines().count()).collect();
+        compared.whole += lengths.iter().filter(|length| **length == wish.lines).count() as u64;
+        compared.lines += lengths.iter().sum::<usize>();
         compared.bytes += rust[..same].iter().map(String::len).sum::<usize>();
         if same < texts.len() {
             compared.difference = Some(difference(program, seed + same as u64, &texts[same])?);

@@ -157,7 +157,10 @@ fn run_compare(program: &str, flags: &Flags) -> Result<ExitCode, String> {
         "{} scripts the same, from seed {} on: {} lines; {} steps, of which {} were refused and left out; {} bytes of states",
         compared.scripts, flags.seed, compared.lines, count.steps, count.left_out, compared.bytes
     );
-    println!("{} of them with starting clocks", compared.with_clocks);
+    println!(
+        "{} of them have all {} lines, {} of them starting clocks",
+        compared.whole, flags.wish().lines, compared.with_clocks
+    );
     match &compared.difference {
         None => {
             println!("no difference");
