@@ -1,13 +1,13 @@
 #!/bin/sh
 # Puts a deliberate fault into a copy of OUR side, compiles it without its proofs (rt try), and holds it
 # against the recorded sample: every fault must show. The faults are the must-fail edits that change code
-# of the engine, which the proofs refuse too, and those of faults/ours. faults/ours/never.txt has those that
-# no script can show; they are left out.
+# of the engine or of what reads and prints, which the proofs refuse too, and those of faults/ours. faults/ours/never.txt has those that
+# the sample does not show; they are left out.
 # usage: faults/try-ours.sh [CRATE/LABEL...]     (all of them without a name)
 cd "$(dirname "$0")/../.." || exit 2
 top=$PWD
 copy=$top/target/faulty
-crates="clock task permits waiters request state taking deciding queueing waking acquiring releasing making points fresh refusals semaphore"
+crates="clock task permits waiters request state taking deciding queueing waking acquiring releasing making points fresh refusals semaphore text script printing"
 rm -rf "$copy"
 mkdir -p "$copy"
 cp -R crates crates.txt "$copy"
