@@ -1,7 +1,7 @@
 -- What a request, and the requests in their slots, stand for.
-use Prim.Native.Nat.{ℕ}
+
 use mathlib.Core.Path.{_≡_}
-use mathlib.Core.Bool.{Bool, true, false, cond}
+use mathlib.Core.Bool.{cond}
 use mathlib.Core.List.{List, map}
 use mathlib.Core.Option.{Option, none, some, Option·getD, Option·map}
 use lib.ListN.{getD, set}

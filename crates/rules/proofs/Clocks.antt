@@ -5,7 +5,7 @@ use native.Mathlib.Omega.{arith}
 use mathlib.Core.Path.{_≡_, refl, ap}
 use mathlib.Core.List.{[], _∷_}
 use lib.ListN.{length, length-replicate}
-use Rattle.rules.specs.Clock.{Clock, join, tick, empty}
+use Rattle.rules.specs.Clock.{Clock, join, empty}
 
 -- as wide, and no entry larger: the order of clocks
 infix 50 _⊑_

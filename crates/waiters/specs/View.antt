@@ -4,7 +4,7 @@ use mathlib.Core.Path.{_≡_}
 use mathlib.Core.Bool.{false, cond, _||_}
 use mathlib.Core.List.{List, [], _∷_, _++_}
 use mathlib.Core.Option.{Option, none, some}
-use lib.ListN.{length, getD, take, drop}
+use lib.ListN.{getD, take, drop}
 use Rattle.rules.specs.declared.Slot.{Slot}
 use Rattle.rules.specs.State.{sameSlot}
 use Rattle.rules.specs.Broken.{anyOf, member, twice, isBeyond}

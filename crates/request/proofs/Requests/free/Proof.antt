@@ -1,5 +1,4 @@
 use mathlib.Core.Path.{_∙_}
-use Rattle.request.specs.View.{slotsOf}
 use borrow.Author.Needs.{needs}
 use Rattle.request.proofs.Requests.free.Statement.{statement}
 use Rattle.request.proofs.Requests.free.Tie as tie
