@@ -10,6 +10,8 @@ use Rattle.rules.specs.declared.Slot.{Slot}
 use Rattle.rules.specs.Task.{Task, noTask, isFinished, blocked, unblocked, wakened}
 use Rattle.rules.specs.Request.{Request, noRequest, queuedAs}
 use Rattle.request.specs.View.{altered}
+use Rattle.waking.specs.declared.Change.{Change}
+use Rattle.waking.specs.declared.Change.the-variants.{Wake, WakeIfEnough, Reblock}
 
 -- the request in a slot
 abbrev pub requestIn : List (Option Request) → Slot → Request
@@ -39,6 +41,11 @@ isHeldUp reserved n me r a = (reserved || ltb n (r .ask .least)) && not (isFinis
 
 abbrev pub reblocked : Bool → ℕ → TaskId → Request → Task → Task
 reblocked reserved n me r a = cond (isHeldUp reserved n me r a) (blocked a) a
+
+abbrev pub changeOf : Change → Request → Task → Task
+changeOf Wake r a = wokenIfLive a
+changeOf (WakeIfEnough n) r a = wokenIfLeast n r a
+changeOf (Reblock b n me) r a = reblocked b n me r a
 
 -- Each slot of a queue, in turn.
 

@@ -12,7 +12,7 @@ ghost use Rattle.task.specs.View.{taskOf, tasksOf, Shows as ShowsTasks};
 ghost use Rattle.waiters.specs.View.{waitersOf, reservationOf};
 ghost use Rattle.request.specs.View.{requestOf, slotsOf};
 ghost use Rattle.state.specs.View.{view, Shaped, Shows};
-ghost use Rattle.waking.specs.Parts.{stale, awake, wokenIfLive, wokenIfLeast, reblocked, forEach, unqueued, standing, wokenIfAsked, wokenBy, wokenLast};
+ghost use Rattle.waking.specs.Parts.{stale, awake, wokenIfLive, wokenIfLeast, reblocked, changeOf, forEach, unqueued, standing, wokenIfAsked, wokenBy, wokenLast};
 use request::Request;
 use request::Requests;
 use rules::TaskId;
@@ -61,25 +61,68 @@ fn wake_if_enough(owner: Task, waiter: Request, stock: u32) -> Task
     wake_unless_finished(owner)
 }
 
-// The task of the request that has the reservation is unblocked and woken, if the stock covers its ask.
-fn wake_holder(tasks: Tasks, holder: Request, stock: u32) -> Tasks
-    requires { ⌜ tasks .count ≤ maxTasks ⌝ }
-    ensures { λ q. ⌜ ShowsTasks q (tasks .count) (wokenIfAsked stock (requestOf holder) (tasksOf tasks)) ⌝ }
+// A queued request that cannot go on: the permits are reserved, or too few for its least.
+fn cannot_progress(waiter: Request, reserved: bool, stock: u32) -> bool
+    ensures { λ b. ⌜ b ≡ (reserved || ltb stock (waiter .ask .least)) ⌝ }
 {
-    if stock < holder.ask.asked {
-        return tasks;
+    if reserved {
+        return true;
     }
-    unblock_and_wake(tasks, holder.task)
+    stock < waiter.ask.least
 }
 
-// Every queued request that can go on has its task, if unfinished, unblocked and woken: they race.
-fn wake_queue(tasks: Tasks, waiters: Waiters, requests: Requests, stock: u32) -> Tasks
+// A task blocked, if a request of its cannot go on, unless it is finished or the acting one.
+fn reblock(owner: Task, waiter: Request, reserved: bool, stock: u32, me: TaskId) -> Task
+    ensures { λ r. ⌜ taskOf r ≡ reblocked reserved stock me (requestOf waiter) (taskOf owner) ⌝ }
+{
+    if !cannot_progress(waiter, reserved, stock) {
+        return owner;
+    }
+    if owner.finished() {
+        return owner;
+    }
+    if waiter.task.0 == me.0 {
+        return owner;
+    }
+    owner.block()
+}
+
+// What happens to the task of a queued request.
+enum Change {
+    // It is woken: everybody may go on.
+    Wake,
+    // It is woken if the stock covers the request's least: whoever can go on races.
+    WakeIfEnough(u32),
+    // It is blocked if the request cannot go on.
+    Reblock {
+        reserved: bool,
+        stock: u32,
+        me: TaskId,
+    },
+}
+
+fn changed(owner: Task, waiter: Request, change: Change) -> Task
+    ensures { λ r. ⌜ taskOf r ≡ changeOf change (requestOf waiter) (taskOf owner) ⌝ }
+{
+    match change {
+        Change::Wake => wake_unless_finished(owner),
+        Change::WakeIfEnough(stock) => wake_if_enough(owner, waiter, stock),
+        Change::Reblock {
+            reserved,
+            stock,
+            me,
+        } => reblock(owner, waiter, reserved, stock, me),
+    }
+}
+
+// The task of every queued request, from the front, is changed.
+fn change_owners(tasks: Tasks, waiters: Waiters, requests: Requests, change: Change) -> Tasks
     requires { ⌜ (tasks .count ≤ maxTasks) × (waiters .len ≤ slotCount) ⌝ }
-    ensures { λ r. ⌜ ShowsTasks r (tasks .count) (forEach (wokenIfLeast stock) (slotsOf requests) (waitersOf waiters) (tasksOf tasks)) ⌝ }
+    ensures { λ r. ⌜ ShowsTasks r (tasks .count) (forEach (changeOf change) (slotsOf requests) (waitersOf waiters) (tasksOf tasks)) ⌝ }
 {
     let len = waiters.len;
     let count = tasks.count;
-    let mut woken = tasks;
+    let mut out = tasks;
     let mut i: usize = 0;
     while i < len {
         let x = waiters.at(i);
@@ -89,12 +132,23 @@ fn wake_queue(tasks: Tasks, waiters: Waiters, requests: Requests, stock: u32) ->
         let t = waiter.task.0 as usize;
         i += 1;
         if t < count {
-            let owner = woken.all[t];
-            let woke = wake_if_enough(owner, waiter, stock);
-            woken.all[t] = woke;
+            let owner = out.all[t];
+            let after = changed(owner, waiter, change);
+            out.all[t] = after;
         }
     }
-    woken
+    out
+}
+
+// The task of the request that has the reservation is unblocked and woken, if the stock covers its ask.
+fn wake_holder(tasks: Tasks, holder: Request, stock: u32) -> Tasks
+    requires { ⌜ tasks .count ≤ maxTasks ⌝ }
+    ensures { λ q. ⌜ ShowsTasks q (tasks .count) (wokenIfAsked stock (requestOf holder) (tasksOf tasks)) ⌝ }
+{
+    if stock < holder.ask.asked {
+        return tasks;
+    }
+    unblock_and_wake(tasks, holder.task)
 }
 
 // The reservation, cleared if its task is finished: it must not keep the permits from the queue.
@@ -126,7 +180,8 @@ fn wake_waiters(
         let holder = requests.get(reservation.slot);
         return wake_holder(tasks, holder, stock);
     }
-    wake_queue(tasks, waiters, requests, stock)
+    let race = Change::WakeIfEnough(stock);
+    change_owners(tasks, waiters, requests, race)
 }
 
 // The waiters of an unfair semaphore that can now go on are unblocked and woken.
@@ -152,64 +207,6 @@ pub fn wake_unfair_waiters(s: BatchSemaphore) -> BatchSemaphore
     out
 }
 
-// A queued request that cannot go on: the permits are reserved, or too few for its least.
-fn cannot_progress(waiter: Request, reserved: bool, stock: u32) -> bool
-    ensures { λ b. ⌜ b ≡ (reserved || ltb stock (waiter .ask .least)) ⌝ }
-{
-    if reserved {
-        return true;
-    }
-    stock < waiter.ask.least
-}
-
-// A task blocked, if a request of its cannot go on, unless it is finished or the acting one.
-fn reblock(owner: Task, waiter: Request, reserved: bool, stock: u32, me: TaskId) -> Task
-    ensures { λ r. ⌜ taskOf r ≡ reblocked reserved stock me (requestOf waiter) (taskOf owner) ⌝ }
-{
-    if !cannot_progress(waiter, reserved, stock) {
-        return owner;
-    }
-    if owner.finished() {
-        return owner;
-    }
-    if waiter.task.0 == me.0 {
-        return owner;
-    }
-    owner.block()
-}
-
-// The task of every queued request that cannot go on is blocked, unless it is finished or the acting one.
-fn reblock_queue(
-    tasks: Tasks,
-    waiters: Waiters,
-    requests: Requests,
-    reserved: bool,
-    stock: u32,
-    me: TaskId,
-) -> Tasks
-    requires { ⌜ (tasks .count ≤ maxTasks) × (waiters .len ≤ slotCount) ⌝ }
-    ensures { λ r. ⌜ ShowsTasks r (tasks .count) (forEach (reblocked reserved stock me) (slotsOf requests) (waitersOf waiters) (tasksOf tasks)) ⌝ }
-{
-    let len = waiters.len;
-    let count = tasks.count;
-    let mut blocked = tasks;
-    let mut i: usize = 0;
-    while i < len {
-        let x = waiters.at(i);
-        let j = request::place(x);
-        let here = requests.all[j];
-        let waiter = here.standing(x.0 < 32);
-        let t = waiter.task.0 as usize;
-        i += 1;
-        if t < count {
-            let owner = blocked.all[t];
-            let halted = reblock(owner, waiter, reserved, stock, me);
-            blocked.all[t] = halted;
-        }
-    }
-    blocked
-}
-
 // On an unfair semaphore, after permits are taken: whoever was woken and cannot go on any more is blocked again.
 pub fn reblock_if_unfair(s: BatchSemaphore, me: TaskId) -> BatchSemaphore
     requires { ⌜ Shaped s ⌝ }
@@ -221,14 +218,12 @@ pub fn reblock_if_unfair(s: BatchSemaphore, me: TaskId) -> BatchSemaphore
     let tasks = s.tasks;
     let waiters = s.waiters;
     let requests = s.requests;
-    let blocked = reblock_queue(
-        tasks,
-        waiters,
-        requests,
-        s.reservation.made,
-        s.permits.num_available,
+    let change = Change::Reblock {
+        reserved: s.reservation.made,
+        stock: s.permits.num_available,
         me,
-    );
+    };
+    let blocked = change_owners(tasks, waiters, requests, change);
     let mut out = s;
     out.tasks = blocked;
     out
@@ -243,31 +238,6 @@ pub fn cancel_reservation(s: BatchSemaphore) -> BatchSemaphore
     let none = Reservation::none();
     out.reservation = none;
     wake_unfair_waiters(out)
-}
-
-// Every queued request's task, if unfinished, is unblocked and woken.
-fn wake_all(tasks: Tasks, waiters: Waiters, requests: Requests) -> Tasks
-    requires { ⌜ (tasks .count ≤ maxTasks) × (waiters .len ≤ slotCount) ⌝ }
-    ensures { λ r. ⌜ ShowsTasks r (tasks .count) (forEach (λ r. wokenIfLive) (slotsOf requests) (waitersOf waiters) (tasksOf tasks)) ⌝ }
-{
-    let len = waiters.len;
-    let count = tasks.count;
-    let mut woken = tasks;
-    let mut i: usize = 0;
-    while i < len {
-        let x = waiters.at(i);
-        let j = request::place(x);
-        let here = requests.all[j];
-        let waiter = here.standing(x.0 < 32);
-        let t = waiter.task.0 as usize;
-        i += 1;
-        if t < count {
-            let owner = woken.all[t];
-            let woke = wake_unless_finished(owner);
-            woken.all[t] = woke;
-        }
-    }
-    woken
 }
 
 // Every queued request is marked as not queued.
@@ -314,7 +284,7 @@ pub fn close(s: BatchSemaphore) -> BatchSemaphore
     let queued = s.requests;
     let reservation = s.reservation;
     let requests = unqueue_all(queued, waiters);
-    let woken = wake_all(tasks, waiters, queued);
+    let woken = change_owners(tasks, waiters, queued, Change::Wake);
     let last = wake_last(woken, requests, reservation);
     let nobody = Waiters::new();
     let unreserved = Reservation::none();

@@ -10,8 +10,8 @@ returns c = shows-closed-before (c .before .args .s) (c .before .pre) (c .if1 .t
 unqueue-all-requires : tie.Need-unqueue-all-requires
 unqueue-all-requires c κs = search needs
 
-wake-all-requires : tie.Need-wake-all-requires
-wake-all-requires c κs = search needs
+change-owners-requires : tie.Need-change-owners-requires
+change-owners-requires c κs = search needs
 
 wake-last-requires : tie.Need-wake-last-requires
 wake-last-requires c κs = search needs
@@ -27,7 +27,7 @@ returns-2 c =
     let l = c .before .before in
     let e = l .before .before .before .before .before .before .before in
     let b = e .before in
-    shows-closed (b .args .s) (b .pre) _ _ _ _ _ (e .if1 .left) (l .before .before .unqueue-all .ensures) (l .before .wake-all .ensures) (l .wake-last .ensures) (c .before .new .ensures) (c .none .ensures)
+    shows-closed (b .args .s) (b .pre) _ _ _ _ _ (e .if1 .left) (l .before .before .unqueue-all .ensures) (l .before .change-owners .ensures) (l .wake-last .ensures) (c .before .new .ensures) (c .none .ensures)
 
 pub close-spec : {M : Type 1} → statement M
 close-spec =
@@ -35,7 +35,7 @@ close-spec =
     (tie.spec
     returns
     unqueue-all-requires
-    wake-all-requires
+    change-owners-requires
     wake-last-requires
     new-requires
     none-requires

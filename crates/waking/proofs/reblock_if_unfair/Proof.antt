@@ -12,15 +12,15 @@ returns c =
     let b = c .before .before in
     shows-fair (b .args .s) (b .pre) (b .args .me) _ (c .before .strictly-fair .ensures) (c .if1 .taken)
 
-reblock-queue-requires : tie.Need-reblock-queue-requires
-reblock-queue-requires c κs = search needs
+change-owners-requires : tie.Need-change-owners-requires
+change-owners-requires c κs = search needs
 
 returns-2 : tie.Need-returns-2
 returns-2 c =
     let e = c .before .before .before .before in
     let b = e .before .before in
-    shows-reblocked (b .args .s) (b .pre) (b .args .me) _ (c .reblock-queue .result) (e .before .strictly-fair .ensures) (e .if1 .left) (c .reblock-queue .ensures)
+    shows-reblocked (b .args .s) (b .pre) (b .args .me) _ (c .change-owners .result) (e .before .strictly-fair .ensures) (e .if1 .left) (c .change-owners .ensures)
 
 pub reblock-if-unfair-spec : {M : Type 1} → statement M
 reblock-if-unfair-spec =
-    tie.close (tie.spec strictly-fair-requires returns reblock-queue-requires returns-2)
+    tie.close (tie.spec strictly-fair-requires returns change-owners-requires returns-2)

@@ -13,12 +13,12 @@ wake-holder-requires c κs = search needs
 returns : tie.Need-returns
 returns c = search (shown, holder-only, needs)
 
-wake-queue-requires : tie.Need-wake-queue-requires
-wake-queue-requires c κs = search needs
+change-owners-requires : tie.Need-change-owners-requires
+change-owners-requires c κs = search needs
 
 returns-2 : tie.Need-returns-2
 returns-2 c = search (shown, queue-races, needs)
 
 pub wake-waiters-spec : {M : Type 1} → statement M
 wake-waiters-spec =
-    tie.close (tie.spec get-requires wake-holder-requires returns wake-queue-requires returns-2)
+    tie.close (tie.spec get-requires wake-holder-requires returns change-owners-requires returns-2)

@@ -9,18 +9,18 @@ use Rattle.waiters.specs.View.{waitersOf}
 use Rattle.rules.proofs.Places.{unmap}
 use Rattle.request.proofs.Slots.{stands-at}
 use Rattle.waiters.proofs.Lists.{waiters-length}
-use Rattle.waking.specs.Parts.{wokenIfLive}
+use Rattle.waking.specs.Parts.{changeOf}
 use Rattle.waking.proofs.Turns.{Along, along-start, along-at, along-past, along-done}
-use Rattle.waking.proofs.wake_all.Statement.{statement}
-use Rattle.waking.proofs.wake_all.Tie as tie
+use Rattle.waking.proofs.change_owners.Statement.{statement}
+use Rattle.waking.proofs.change_owners.Tie as tie
 
 abbrev Inv-loop : tie.InvT-loop
-Inv-loop waiters requests len count woken₀ i₀ woken i =
-    (Along (λ r. wokenIfLive) (slotsOf requests) (waitersOf waiters) woken₀ len i woken)
+Inv-loop waiters change requests len count out₀ i₀ out i =
+    (Along (changeOf change) (slotsOf requests) (waitersOf waiters) out₀ len i out)
     × (length (requests .all) ≡ 32)
 
 abbrev μ-loop : tie.MeasureT-loop
-μ-loop waiters requests len count woken₀ i₀ woken i = len - i
+μ-loop waiters change requests len count out₀ i₀ out i = len - i
 
 -- the request of the slot at i
 stood : (c : tie.After-standing Inv-loop μ-loop) →
@@ -63,14 +63,14 @@ mul-owner c = search needs
 element-copy-out-owner : tie.Need-element-copy-out-owner Inv-loop μ-loop
 element-copy-out-owner c = search needs
 
-wake-unless-finished-requires : tie.Need-wake-unless-finished-requires Inv-loop μ-loop
-wake-unless-finished-requires c κs = search needs
+changed-requires : tie.Need-changed-requires Inv-loop μ-loop
+changed-requires c κs = search needs
 
-mul-woke : tie.Need-mul-woke Inv-loop μ-loop
-mul-woke c = search needs
+mul-after : tie.Need-mul-after Inv-loop μ-loop
+mul-after c = search needs
 
-element-set-from-woke : tie.Need-element-set-from-woke Inv-loop μ-loop
-element-set-from-woke c = search needs
+element-set-from-after : tie.Need-element-set-from-after Inv-loop μ-loop
+element-set-from-after c = search needs
 
 loop-less : tie.Need-loop-less Inv-loop μ-loop
 loop-less c = search needs
@@ -91,8 +91,8 @@ loop-again-2 c =
 returns : tie.Need-returns Inv-loop μ-loop
 returns c = search (along-done, needs)
 
-pub wake-all-spec : {M : Type 1} → statement M
-wake-all-spec =
+pub change-owners-spec : {M : Type 1} → statement M
+change-owners-spec =
     tie.close
     (tie.spec
     Inv-loop
@@ -107,9 +107,9 @@ wake-all-spec =
     add-i
     mul-owner
     element-copy-out-owner
-    wake-unless-finished-requires
-    mul-woke
-    element-set-from-woke
+    changed-requires
+    mul-after
+    element-set-from-after
     loop-less
     loop-again
     loop-less-2
