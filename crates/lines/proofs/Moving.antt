@@ -1,4 +1,4 @@
--- A reader made of some bytes and moved on to a place: the two calls that `line_at` and `is_left_at` begin with. What each is passed, what it asks, and what is known of its result. (The signatures of the two differ only in their results.)
+-- A reader made of some bytes and moved on to a place: the two calls that `line_at` begins with. What each is passed, what it asks, and what is known of its result.
 -- Assumes nothing.
 use mathlib.Core.Path.{_≡_, refl}
 use Prim.Native.Nat.{ℕ, _<_, _^_}

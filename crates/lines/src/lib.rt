@@ -1,7 +1,5 @@
 // A script's bytes with a place in them: the line reader. Its functions are thin, and leave the work to functions on the bytes and the place.
 ghost use mathlib.Core.Path.{_≡_};
-ghost use lib.Dec.{ltb};
-ghost use lib.ListN.{length};
 ghost use Rattle.text.specs.Reading.{NextIs};
 use text::NextLine;
 
@@ -24,19 +22,6 @@ pub fn moved<'a>(r: Lines<'a>, at: usize) -> Lines<'a>
     Lines { src: r.src, at }
 }
 
-fn is_before_end(s: &[u8], at: usize) -> bool
-    ensures { λ b. ⌜ b ≡ ltb at (length (now (s .entry))) ⌝ }
-{
-    at < s.len()
-}
-
-// Whether a line is left.
-pub fn is_left<'a>(r: Lines<'a>) -> bool
-    ensures { λ b. ⌜ b ≡ ltb (r .entry .at) (length (now (r .entry .src))) ⌝ }
-{
-    is_before_end(r.src, r.at)
-}
-
 // The line at the reader's place.
 pub fn next<'a>(r: Lines<'a>) -> NextLine
     ensures { λ n. ⌜ NextIs (now (r .entry .src)) (r .entry .at) n ⌝ }
@@ -44,16 +29,9 @@ pub fn next<'a>(r: Lines<'a>) -> NextLine
     text::next_line(r.src, r.at)
 }
 
-// The line at a place, by way of the reader: whoever calls this and the next one needs no walk.
+// The line at a place, by way of the reader: whoever calls this needs no walk.
 pub fn line_at(s: &[u8], at: usize) -> NextLine
     ensures { λ n. ⌜ NextIs (now (s .entry)) at n ⌝ }
 {
     next(moved(new(s), at))
-}
-
-// Whether a line is left at a place.
-pub fn is_left_at(s: &[u8], at: usize) -> bool
-    ensures { λ b. ⌜ b ≡ ltb at (length (now (s .entry))) ⌝ }
-{
-    is_left(moved(new(s), at))
 }

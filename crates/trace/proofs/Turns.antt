@@ -2,11 +2,9 @@
 use Prim.Native.Nat.{ℕ, _+_, _*_, _-_, _≤_, _<_}
 use native.Mathlib.Omega.{arith}
 use mathlib.Core.Path.{_≡_, refl, ap, sym, subst, _∙_}
-use mathlib.Core.Bool.{Bool, true, false}
+use mathlib.Core.Bool.{true, false}
 use mathlib.Core.List.{List, [], _∷_, _++_, append-assoc, append-nil}
 use mathlib.Core.Option.{Option, none}
-use borrow.Author.Tests.{ltb-true, ltb-false}
-use lib.Dec.{ltb}
 use lib.ListN.{length, take, drop, length-take, length-drop}
 use Rattle.rules.specs.declared.Step.{Step}
 use Rattle.rules.specs.State.{State}
@@ -104,12 +102,6 @@ behind-then {old} {n} {xs} {ys = ys} a b =
     record { stands = b .stands ∙ rw (a .stands) (append-assoc (take n old) xs ys); fits = b .fits }
 
 -- before the first turn, and behind the last
-pub left-before : (b : Bool) (at : ℕ) (s : List ℕ) → b ≡ ltb at (length s) → b ≡ true → at < length s
-left-before b at s e h = ltb-true at (length s) (sym e ∙ h)
-
-pub none-left : (b : Bool) (at : ℕ) (s : List ℕ) → b ≡ ltb at (length s) → b ≡ false → length s ≤ at
-none-left b at s e h = ltb-false at (length s) (sym e ∙ h)
-
 module _ (script old out : List ℕ) (from start at n : ℕ) (first s : BatchSemaphore) where
   pub turns-end : take n out ++ trace (view s) (lines (drop at script)) ≡ take start old ++ trace (view first) (lines (drop from script)) → n + 45 * (length script - at) ≤ length out → length script ≤ at
       → Behind old start (trace (view first) (lines (drop from script))) out n

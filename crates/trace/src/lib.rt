@@ -137,7 +137,7 @@ fn run_lines(
     let mut at = from;
     let mut s = first;
     let mut n = start;
-    while lines::is_left_at(script, at) {
+    while at < script.len() {
         let t = run_next(script, at, s, out, n);
         let state = t.state;
         s = state;

@@ -9,7 +9,7 @@ use Rattle.rules.specs.Text.{lines}
 use Rattle.rules.specs.Script.{trace}
 use Rattle.state.specs.View.{view}
 use Rattle.broken.specs.Broken.{Fit}
-use Rattle.trace.proofs.Turns.{left-before, none-left, turns-end}
+use Rattle.trace.proofs.Turns.{turns-end}
 use Rattle.trace.proofs.run_lines.Statement.{statement}
 use Rattle.trace.proofs.run_lines.Tie as tie
 
@@ -27,18 +27,15 @@ abbrev μ-loop : tie.MeasureT-loop
 loop-holds : tie.Need-loop-holds Inv-loop μ-loop
 loop-holds c = (refl, search needs, search needs, search needs, refl)
 
-is-left-at-requires : tie.Need-is-left-at-requires Inv-loop μ-loop
-is-left-at-requires c κs = search needs
-
 run-next-requires : tie.Need-run-next-requires Inv-loop μ-loop
-run-next-requires c κs = (search (left-before, needs), c .before .before .before .loop .inv .1, c .before .before .before .loop .inv .2)
+run-next-requires c κs = (search needs, c .before .before .loop .inv .1, c .before .before .loop .inv .2)
 
 loop-less : tie.Need-loop-less Inv-loop μ-loop
 loop-less c = omega (arith, c .before .before .before .run-next .ensures .on, c .before .before .before .run-next .ensures .within)
 
 loop-again : tie.Need-loop-again Inv-loop μ-loop
 loop-again c =
-    let l = c .before .before .before .before .before .before .before .loop in
+    let l = c .before .before .before .before .before .before .loop in
     let r = c .before .before .before .run-next .ensures in
     (r .whole ∙ l .inv .0, r .room, r .fit, r .within, search needs)
 
@@ -47,9 +44,9 @@ same-length c = search needs
 
 returns : tie.Need-returns Inv-loop μ-loop
 returns c =
-    let l = c .before .before .loop in
-    let z = c .before .before .before .before .before .args in
-    turns-end (z .script .now) (z .out .now) (l .out) (z .from) (z .start) (l .at) (l .n) (z .first) (l .s) (l .inv .0) (l .inv .1) (search (none-left, needs))
+    let l = c .before .loop in
+    let z = c .before .before .before .before .args in
+    turns-end (z .script .now) (z .out .now) (l .out) (z .from) (z .start) (l .at) (l .n) (z .first) (l .s) (l .inv .0) (l .inv .1) (search needs)
 
 pub run-lines-spec : {M : Type 1} → statement M
 run-lines-spec =
@@ -58,7 +55,6 @@ run-lines-spec =
     Inv-loop
     μ-loop
     loop-holds
-    is-left-at-requires
     run-next-requires
     loop-less
     loop-again
