@@ -1,7 +1,10 @@
-// Runs each script that its arguments name and compares what it prints with the text that stands in the file behind it.
+// Runs that no short script reaches; then each script that the arguments name, comparing what it prints with the text that stands in the
+// file behind it.
 ghost use Prim.Native.Nat.{_≤_};
 ghost use Rattle.io.specs.Counts.{Counts};
 use libc::STDOUT_FILENO;
+
+mod trials;
 
 // The most that a script has here, and what it can print.
 fn script_room() -> [u8; 4096] {
@@ -68,6 +71,7 @@ fn count() -> usize
 }
 
 fn main() {
+    trials::tell();
     let n = count();
     let mut i: usize = 1;
     while i + 1 < n {

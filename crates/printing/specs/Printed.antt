@@ -1,8 +1,10 @@
 -- What the printers write, as the rules see it.
 use Prim.Native.Nat.{ℕ, _≤_}
+use mathlib.Core.Path.{_≡_}
 use mathlib.Core.List.{List, [], _∷_, _++_, map}
 use lib.ListN.{length, drop}
 use Rattle.rules.specs.declared.Grant.{Grant}
+use Rattle.rules.specs.State.{State, available as availableOf}
 use Rattle.rules.specs.Steps.{Answer}
 use Rattle.rules.specs.Text.{space, comma, joinedBy, digits}
 use Rattle.rules.specs.Script.{answerText, closedText, takerText, grantsText, endLine}
@@ -13,6 +15,13 @@ use Rattle.printing.specs.declared.Counts.{Counts}
 pub record Printed (most : ℕ) (old : List ℕ) (at : ℕ) (text new : List ℕ) (r : ℕ) : Type 0 where
   pub written : Appended old at text new r
   pub short : length text ≤ most
+
+-- what a line shows of a state
+pub record ShownBy (c : Counts) (s : State) : Type 0 where
+  pub available : c .available ≡ availableOf s
+  pub stock : c .stock ≡ s .permits .stock
+  pub closed : c .closed ≡ s .closed
+  pub queued : c .queued ≡ length (s .queue)
 
 -- the takers of some grants, joined by commas
 abbrev pub takersText : List Grant → List ℕ

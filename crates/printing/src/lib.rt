@@ -8,11 +8,13 @@ ghost use Rattle.rules.specs.Text.{space, comma, digits};
 ghost use Rattle.rules.specs.Script.{closedText, takerText, grantsText, answerText};
 ghost use Rattle.replies.specs.Answers.{answerOf};
 ghost use Rattle.grants.specs.View.{grantsOf};
-ghost use Rattle.printing.specs.Printed.{Printed, takersText, restText, countsText, lineText};
+ghost use Rattle.state.specs.View.{view};
+ghost use Rattle.printing.specs.Printed.{Printed, takersText, restText, countsText, lineText, ShownBy};
 use grants::Grants;
 use replies::Reply;
 use rules::Grant;
 use rules::Taker;
+use state::BatchSemaphore;
 
 // What a line shows of the state: available, stock, closed or not, queue length.
 pub struct Counts {
@@ -20,6 +22,22 @@ pub struct Counts {
     pub stock: u32,
     pub closed: bool,
     pub queued: u32,
+}
+
+// What a line shows of any struct.
+pub fn counts_of(s: BatchSemaphore) -> Counts
+    ensures { λ c. ⌜ ShownBy c (view s) ⌝ }
+{
+    let available = s.available_permits();
+    let stock = s.stock();
+    let closed = s.is_closed();
+    let queued = s.queue_length() as u32;
+    Counts {
+        available,
+        stock,
+        closed,
+        queued,
+    }
 }
 
 // A byte's number: at most three digits.
@@ -39,7 +57,8 @@ fn print_field(buf: &mut [u8], at: usize, n: u32) -> usize
     text::put(buf, p, b" ")
 }
 
-fn bit(b: bool) -> u32
+// Yes or no as a number.
+pub fn bit(b: bool) -> u32
     ensures { λ r. ⌜ digits r ≡ closedText b ⌝ }
 {
     if b { 1 } else { 0 }

@@ -1,39 +1,24 @@
 // Runs the recorded scripts, NNN.script, and holds the whole state after each line to what the Rust did, NNN.state. A script whose first
 // line has starting clocks is NNN.clocks.
 use libc::STDOUT_FILENO;
+use showing::part;
 use walking::Walk;
+use walking::sum;
 
 // What was compared.
 struct Tally {
-    pub scripts: u64,
-    pub steps: u64,
-    pub refused: u64,
-    pub differences: u64,
+    pub scripts: usize,
+    pub steps: usize,
+    pub refused: usize,
+    pub differences: usize,
 }
 
 // A script on its way: the walk, the line that comes next, where the recorded text goes on, and whether all was the same so far.
 struct Progress {
     pub walk: Walk,
-    pub line: u64,
+    pub line: usize,
     pub from: usize,
     pub same: bool,
-}
-
-fn sum(a: u64, b: u32) -> u64 {
-    if a < 9223372036854775808 {
-        return a + b as u64;
-    }
-    a
-}
-
-// The sum of two places, none of which is past a buffer's end.
-fn past(a: usize, b: usize) -> usize {
-    if a <= 65536 {
-        if b <= 65536 {
-            return a + b;
-        }
-    }
-    131072
 }
 
 fn byte_at(s: &[u8], i: usize) -> u8 {
@@ -42,12 +27,12 @@ fn byte_at(s: &[u8], i: usize) -> u8 {
 
 // Whether the first n bytes of a buffer stand in a text from a place on.
 fn stands(buf: &[u8], n: usize, text: &[u8], from: usize) -> bool {
-    if text.len() < past(from, n) {
+    if text.len() < sum(from, n) {
         return false;
     }
     let mut i: usize = 0;
     while i < n {
-        if byte_at(buf, i) != byte_at(text, past(from, i)) {
+        if byte_at(buf, i) != byte_at(text, sum(from, i)) {
             return false;
         }
         i += 1;
@@ -78,19 +63,15 @@ fn block_end(text: &[u8], from: usize) -> usize {
 }
 
 fn write_part(text: &[u8], from: usize, to: usize) {
-    if from <= to {
-        if to <= text.len() {
-            io::write_all(STDOUT_FILENO, &text[from..to]);
-        }
-    }
+    io::write_all(STDOUT_FILENO, part(text, from, to));
 }
 
 // The difference, whole.
-fn tell(number: u32, line: u64, want: &[u8], from: usize, got: &[u8], end: usize) {
+fn tell(number: u32, line: usize, want: &[u8], from: usize, got: &[u8], end: usize) {
     io::write_all(STDOUT_FILENO, b"script ");
     io::print_decimal(STDOUT_FILENO, number as u64);
     io::write_all(STDOUT_FILENO, b", line ");
-    io::print_decimal(STDOUT_FILENO, line);
+    io::print_decimal(STDOUT_FILENO, line as u64);
     io::write_all(STDOUT_FILENO, b"\nthe Rust:\n");
     write_part(want, from, block_end(want, from));
     io::write_all(STDOUT_FILENO, b"this engine:\n");
@@ -110,7 +91,7 @@ fn begun(clocks: bool) -> Progress {
 // The next line of a script; its text stands at the start of a buffer.
 fn next(got: &mut [u8], script: &[u8], r: Progress) -> Progress {
     let mut walk = r.walk;
-    walk.end = 0;
+    walk.place.end = 0;
     let after = walking::walk_on(got, script, walk);
     Progress {
         walk: after,
@@ -123,13 +104,13 @@ fn next(got: &mut [u8], script: &[u8], r: Progress) -> Progress {
 // A line's text held to the recorded text from where it goes on. At the end of a script nothing may be left of it.
 fn held(got: &[u8], want: &[u8], r: Progress) -> Progress {
     let mut out = r;
-    let end = out.walk.end;
+    let end = out.walk.place.end;
     let same = stands(got, end, want, out.from);
     out.same = same;
     if same {
-        out.from = past(r.from, end);
+        out.from = sum(r.from, end);
         out.line = sum(r.line, 1);
-        if !r.walk.on {
+        if !r.walk.place.on {
             out.same = out.from == want.len();
         }
     }
@@ -151,7 +132,7 @@ fn run(got: &mut [u8], script: &[u8], want: &[u8], clocks: bool) -> Progress {
         if !r.same {
             break;
         }
-        if !r.walk.on {
+        if !r.walk.place.on {
             break;
         }
     }
@@ -161,8 +142,8 @@ fn run(got: &mut [u8], script: &[u8], want: &[u8], clocks: bool) -> Progress {
 fn counted(t: Tally, r: Progress) -> Tally {
     Tally {
         scripts: sum(t.scripts, 1),
-        steps: sum(t.steps, r.walk.steps),
-        refused: sum(t.refused, r.walk.refused),
+        steps: sum(t.steps, r.walk.place.steps),
+        refused: sum(t.refused, r.walk.place.refused),
         differences: t.differences,
     }
 }
@@ -189,28 +170,10 @@ fn compare(
         return out;
     }
     if t.differences == 0 {
-        tell(number, r.line, want, r.from, got, r.walk.end);
+        tell(number, r.line, want, r.from, got, r.walk.place.end);
     }
     out.differences = sum(t.differences, 1);
     out
-}
-
-fn compare_parts(
-    number: u32,
-    got: &mut [u8],
-    script: &[u8],
-    read: Script,
-    want: &[u8],
-    m: usize,
-    t: Tally,
-) -> Tally {
-    let n = read.bytes;
-    if n <= script.len() {
-        if m <= want.len() {
-            return compare(number, got, &script[..n], read.clocks, &want[..m], t);
-        }
-    }
-    t
 }
 
 // How many bytes a file has, or that there is none.
@@ -229,17 +192,10 @@ fn put_name(path: &mut [u8], number: u32, ending: &[u8]) -> usize {
     showing::put(path, p, ending)
 }
 
-fn open(path: &[u8], n: usize) -> i32 {
-    if n <= path.len() {
-        return os::open_read(&path[..n]);
-    }
-    -1
-}
-
 fn open_numbered(number: u32, ending: &[u8]) -> i32 {
     let mut path = [0u8; 16];
     let n = put_name(&mut path, number, ending);
-    open(&path, n)
+    os::open_read(part(&path, 0, n))
 }
 
 fn read_numbered(number: u32, ending: &[u8], buf: &mut [u8]) -> File {
@@ -298,7 +254,14 @@ fn replay_one(number: u32, script: &mut [u8], want: &mut [u8], got: &mut [u8], t
         };
     }
     let m = read_states(number, want);
-    let tally = compare_parts(number, got, script, read, want, m, t);
+    let tally = compare(
+        number,
+        got,
+        part(script, 0, read.bytes),
+        read.clocks,
+        part(want, 0, m),
+        t,
+    );
     Told { tally, on: true }
 }
 
@@ -331,12 +294,12 @@ fn main() {
     let mut got = io::large_buffer();
     let r = replay(&mut script, &mut want, &mut got);
     let t = r.tally;
-    io::print_decimal(STDOUT_FILENO, t.scripts);
+    io::print_decimal(STDOUT_FILENO, t.scripts as u64);
     io::write_all(STDOUT_FILENO, b" scripts, ");
-    io::print_decimal(STDOUT_FILENO, t.steps);
+    io::print_decimal(STDOUT_FILENO, t.steps as u64);
     io::write_all(STDOUT_FILENO, b" steps, ");
-    io::print_decimal(STDOUT_FILENO, t.refused);
+    io::print_decimal(STDOUT_FILENO, t.refused as u64);
     io::write_all(STDOUT_FILENO, b" of them refused, ");
-    io::print_decimal(STDOUT_FILENO, t.differences);
+    io::print_decimal(STDOUT_FILENO, t.differences as u64);
     io::write_all(STDOUT_FILENO, b" differences\n");
 }

@@ -10,9 +10,7 @@ const FULL: usize = 32768;
 const MOST: usize = 65536;
 
 fn write_out(buf: &[u8], n: usize) {
-    if n <= buf.len() {
-        io::write_all(1, &buf[..n]);
-    }
+    io::write_all(1, showing::part(buf, 0, n));
 }
 
 // Writes a full buffer out; the place where it goes on.
@@ -26,8 +24,8 @@ fn emptied(buf: &[u8], at: usize) -> usize {
 
 fn turn(buf: &mut [u8], script: &[u8], w: Walk) -> Walk {
     let mut out = walking::walk_on(buf, script, w);
-    let end = emptied(buf, out.end);
-    out.end = end;
+    let end = emptied(buf, out.place.end);
+    out.place.end = end;
     out
 }
 
@@ -38,11 +36,11 @@ fn run(buf: &mut [u8], at: usize, script: &[u8], clocks: bool) -> usize {
     while 0 < turns {
         w = turn(buf, script, w);
         turns -= 1;
-        if !w.on {
+        if !w.place.on {
             break;
         }
     }
-    w.end
+    w.place.end
 }
 
 fn run_one(buf: &mut [u8]) {
@@ -67,11 +65,8 @@ struct Ran {
 }
 
 fn run_read(buf: &mut [u8], at: usize, script: &[u8], n: usize) -> usize {
-    if n <= script.len() {
-        let p = run(buf, at, &script[..n], true);
-        return showing::put(buf, p, b"end\n");
-    }
-    at
+    let p = run(buf, at, showing::part(script, 0, n), true);
+    showing::put(buf, p, b"end\n")
 }
 
 fn read_length() -> usize {

@@ -1,28 +1,29 @@
 -- The first line: the start that it says, refused or accepted, and the lines behind it.
-use Prim.Native.Nat.{ℕ, zero, suc, _+_, _*_, _-_, _^_, _≤_, _<_}
-use native.Mathlib.Nat.{mul-le-mul}
-use native.Mathlib.Decide.{decLt}
+use Prim.Native.Nat.{ℕ, _+_, _*_, _-_, _/_, _≤_, _<_}
+use native.Mathlib.Nat.{div-add-mod'}
 use native.Mathlib.Omega.{arith}
 use mathlib.Core.Path.{_≡_, refl, ap, sym, subst, _∙_}
 use mathlib.Core.Bool.{true, false}
 use mathlib.Core.List.{List, [], _∷_, _++_}
 use mathlib.Core.Option.{Option, none, some}
-use borrow.Author.Tests.{lt-ltb, le-ltb}
-use lib.ListN.{length, take, drop, replicate, length-replicate}
+use lib.ListN.{length, take, drop}
 use lib.Seq.{length-take-le}
-use Rattle.rules.specs.declared.TaskId.{TaskId}
-use Rattle.rules.specs.declared.Fairness.{Fairness}
 use Rattle.rules.specs.Fresh.{Start, refuses12}
+use Rattle.rules.specs.Steps.Answer.{done}
 use Rattle.rules.specs.Runs.{start}
 use Rattle.rules.specs.Text.{Line, lines}
-use Rattle.rules.specs.Script.{startWith, startOf, trace, traceFrom, program}
-use Rattle.rules.proofs.Laws.{refused-start}
-use Rattle.rules.proofs.Scripts.{many-tasks, long-printed, short-printed}
+use Rattle.rules.specs.Script.{startOf, trace, traceFrom, program, printed}
+use Rattle.rules.proofs.Scripts.{long-printed, short-printed}
 use Rattle.text.specs.Reading.{Within, NextIs}
 use Rattle.text.specs.Writing.{Appended}
 use Rattle.text.specs.declared.NextLine.{NextLine}
 use Rattle.text.specs.declared.NextLine.the-variants.{Ended, Unended, End}
 use Rattle.text.proofs.Buffer.{appended-first, appended-length}
+use Rattle.grants.specs.declared.Grants.{Grants}
+use Rattle.grants.specs.View.{grantsOf, Holds}
+use Rattle.printing.specs.declared.Counts.{Counts}
+use Rattle.printing.specs.Printed.{Printed, lineText, ShownBy}
+use Rattle.state.specs.declared.BatchSemaphore.{BatchSemaphore}
 use Rattle.state.specs.View.{view}
 use Rattle.fresh.specs.declared.Started.{Started}
 use Rattle.fresh.specs.Starting.{Gives}
@@ -30,68 +31,24 @@ use Rattle.fresh.proofs.Starts.{refused-exactly, accepted-fresh}
 use Rattle.script.specs.declared.Opening.{Opening}
 use Rattle.script.specs.declared.Opening.the-variants.{Is, Bad}
 use Rattle.script.specs.declared.First.{First}
-use Rattle.script.specs.declared.Maker.the-variants.{Task, Nobody}
 use Rattle.script.specs.Opening.{opened, startWithin}
 use Rattle.script.proofs.Within.{trace-within}
 use Rattle.script.proofs.Short.{start-length}
-use Rattle.trace.specs.Running.{room, entriesOf, firstOf, startSaid, freshOf, Behind, Prints}
-
--- Starting clocks are all zero.
-
-take-zeros : (n m : ℕ) → n ≤ m → take {A = ℕ} n (replicate m 0) ≡ replicate n 0
-take-zeros zero m h = refl
-take-zeros (suc n) zero h = absurd (omega arith)
-take-zeros (suc n) (suc m) h = ap (λ (l : List ℕ). 0 ∷ l) (take-zeros n m (omega arith))
-
-square : (k : ℕ) → k ≤ 16 → k * k ≤ 256
-square k h = mul-le-mul h h
-
-pub too-many : (k : ℕ) → 16 < k → 0 ≡ entriesOf k
-too-many k h = rw (lt-ltb 16 k h)
-
-pub not-too-many : (k : ℕ) → k ≤ 16 → k * k ≡ entriesOf k
-not-too-many k h = rw (le-ltb 16 k h)
-
-pub entries-small : (k : ℕ) → k ≤ 16 → k * k < 2 ^ 64
-entries-small k h = omega (arith, square k h)
-
-entries-fit : (k : ℕ) → entriesOf k ≤ 256
-entries-fit k = elim (decLt 16 k) [ yes h ↦ rw (lt-ltb 16 k h) (omega arith) | no h ↦ rw (le-ltb 16 k (omega arith)) (square k (omega arith)) ]
-
-pub entries-within : (k n : ℕ) (zs : List ℕ) → n ≡ entriesOf k → zs ≡ replicate 256 0 → n ≤ length zs
-entries-within k n zs e z = rw (z, length-replicate, e) (entries-fit k)
-
-pub entries-length : (k n : ℕ) (zs : List ℕ) → n ≡ entriesOf k → zs ≡ replicate 256 0 → n ≡ length (take n zs)
-entries-length k n zs e z = sym (length-take-le n zs (entries-within k n zs e z))
-
-module _ (f : Fairness) (stock k : ℕ) (m : Option TaskId) where
-  abbrev withClocks : List ℕ → Start
-  withClocks cs = record { fairness = f; stock = stock; tasks = k; clocks = cs; maker = m }
-
-  zero-start : (n : ℕ) → n ≡ entriesOf k → start (withClocks (take n (replicate 256 0))) ≡ start (startWith f stock m k)
-  zero-start n e =
-      elim (decLt 16 k) [
-        | yes h ↦ refused-start (withClocks (take n (replicate 256 0))) (many-tasks _ h) ∙ sym (refused-start (startWith f stock m k) (many-tasks _ h))
-        | no h ↦
-            let q : n ≡ k * k = e ∙ sym (not-too-many k (omega arith)) in
-            rw (q, take-zeros (k * k) 256 (square k (omega arith)))
-      ]
-
-  gives-zero : (zs : List ℕ) (n : ℕ) (r : Started) → zs ≡ replicate 256 0 → n ≡ entriesOf k → Gives r (start (withClocks (take n zs))) → Gives r (start (startWith f stock m k))
-  gives-zero zs n r z e g = subst (Gives r) (ap (λ (l : List ℕ). start (withClocks (take n l))) z ∙ zero-start n e) g
-
-module _ (a : First) (zs : List ℕ) (n : ℕ) (r : Started) (z : zs ≡ replicate 256 0) (e : n ≡ entriesOf (a .tasks)) where
-  pub said-maker : (t : TaskId) → a .maker ≡ Task t → Gives r (start (withClocks (a .fairness) (a .stock) (a .tasks) (some t) (take n zs))) → Gives r (freshOf a)
-  said-maker t m g = rw m (gives-zero (a .fairness) (a .stock) (a .tasks) (some t) zs n r z e g)
-
-  pub said-nobody : a .maker ≡ Nobody → Gives r (start (withClocks (a .fairness) (a .stock) (a .tasks) none (take n zs))) → Gives r (freshOf a)
-  said-nobody m g = rw m (gives-zero (a .fairness) (a .stock) (a .tasks) none zs n r z e g)
+use Rattle.starting.specs.Said.{startSaid}
+use Rattle.trace.specs.Running.{room, firstOf, Behind, Prints}
+use Rattle.trace.proofs.Lines.{first-printed}
+use Rattle.trace.proofs.Turns.{behind-printed, behind-then}
 
 -- A text at the front of the buffer.
 pub front : {old : List ℕ} {text new : List ℕ} {r : ℕ} → length text ≤ length old → Appended old 0 text new r → Behind old 0 text new r
 front {old} {text} {new} {r} h w =
     let l = appended-length w (omega arith) in
     record { stands = appended-first w (omega arith); fits = omega (arith, w .end) }
+
+-- The line of the fresh state, and the lines behind it.
+pub fresh-behind : (s : BatchSemaphore) (c : Counts) (g : Grants) (old mid new ys : List ℕ) (n r : ℕ) → ShownBy c (view s) → Holds g 0 [] → 180 ≤ length old → Printed 180 old 0 (lineText done c (grantsOf g)) mid n → Behind mid n ys new r
+    → Behind old 0 (firstOf (view s) ++ ys) new r
+fresh-behind s c g old mid new ys n r h k room p b = behind-then (behind-printed (omega arith) (first-printed s c g old mid 0 n h k p)) b
 
 -- Refused or accepted.
 module _ (a : Start) (r : Started) (g : Gives r (start a)) (old new : List ℕ) (e : ℕ) (ls : List Line) where
@@ -156,10 +113,23 @@ unended-room script l m is p h =
     omega arith
 
 -- More than 65,536 bytes print only `long`.
-pub prints-long : (script old new : List ℕ) (r : ℕ) → 65536 < length script → room script ≤ length old → Appended old 0 (108 ∷ 111 ∷ 110 ∷ 103 ∷ 10 ∷ []) new r → Prints script new r
-prints-long script old new r h k w =
-    let b = front {text = 108 ∷ 111 ∷ 110 ∷ 103 ∷ 10 ∷ []} (omega arith) w in
-    record { text = b .stands ∙ sym (long-printed script h); fits = b .fits; counted = sym (length-take-le r new (b .fits)) }
+pub long-behind : (script old new : List ℕ) (r : ℕ) → 65536 < length script → room script ≤ length old → Appended old 0 (108 ∷ 111 ∷ 110 ∷ 103 ∷ 10 ∷ []) new r → Behind old 0 (printed script) new r
+long-behind script old new r h k w = rw (long-printed script h) (front {text = 108 ∷ 111 ∷ 110 ∷ 103 ∷ 10 ∷ []} (omega arith) w)
 
-pub prints-short : (script old new : List ℕ) (r : ℕ) → length script ≤ 65536 → Behind old 0 (program (lines script)) new r → Prints script new r
-prints-short script old new r h b = record { text = b .stands ∙ sym (short-printed script h); fits = b .fits; counted = sym (length-take-le r new (b .fits)) }
+pub short-behind : (script old new : List ℕ) (r : ℕ) → length script ≤ 65536 → Behind old 0 (program (lines script)) new r → Behind old 0 (printed script) new r
+short-behind script old new r h b = rw (short-printed script h) b
+
+-- With room and without.
+pub prints-in : (script old new : List ℕ) (r : ℕ) → room script ≤ length old → Behind old 0 (printed script) new r → Prints script old new r
+prints-in script old new r k b =
+    record { text = λ _. b .stands; short = λ l. absurd (omega arith); fits = b .fits; counted = sym (length-take-le r new (b .fits)) }
+
+pub prints-nothing : (script old : List ℕ) → length old < room script → Prints script old old 0
+prints-nothing script old h = record { text = λ k. absurd (omega arith); short = λ _. (refl, refl); fits = omega arith; counted = refl }
+
+-- The room, by a quotient.
+pub enough-room : (m n : ℕ) → n ≤ m / 45 → 45 * n ≤ m
+enough-room m n h = omega (arith, div-add-mod' m 45)
+
+pub short-room : (m n : ℕ) → m / 45 < n → m < 45 * n
+short-room m n h = omega (arith, div-add-mod' m 45)

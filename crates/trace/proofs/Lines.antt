@@ -2,7 +2,7 @@
 use Prim.Native.Nat.{ℕ, _+_, _*_, _≤_, _<_}
 use native.Mathlib.Omega.{arith}
 use mathlib.Core.Path.{_≡_, refl, ap, sym, subst, _∙_}
-use mathlib.Core.List.{List, [], _∷_}
+use mathlib.Core.List.{List, []}
 use mathlib.Core.Option.{Option, none, some}
 use lib.ListN.{length}
 use Rattle.rules.specs.declared.Step.{Step}
@@ -11,7 +11,6 @@ use Rattle.rules.specs.Steps.{Outcome, quiet}
 use Rattle.rules.specs.Steps.Answer.{done}
 use Rattle.rules.specs.Script.{outcomeText, stepOf, printing, Printing}
 use Rattle.rules.proofs.KeepsSteps.{sound-step}
-use Rattle.text.specs.Writing.{Appended}
 use Rattle.state.specs.declared.BatchSemaphore.{BatchSemaphore}
 use Rattle.state.specs.View.{view}
 use Rattle.broken.specs.Broken.{Fit}
@@ -24,7 +23,7 @@ use Rattle.outcomes.specs.View.{outcomeOf}
 use Rattle.semaphore.specs.Contract.{Steps}
 use Rattle.semaphore.proofs.Carried.{step-carried}
 use Rattle.printing.specs.declared.Counts.{Counts}
-use Rattle.printing.specs.Printed.{Printed, lineText}
+use Rattle.printing.specs.Printed.{Printed, lineText, ShownBy}
 use Rattle.printing.proofs.Chain.{printed-longer}
 use Rattle.printing.proofs.Lines.{outcome-line}
 use Rattle.script.specs.declared.Parsed.{Parsed}
@@ -33,20 +32,16 @@ use Rattle.script.specs.Saying.{within, parsed}
 use Rattle.script.proofs.Within.{printing-within}
 use Rattle.script.proofs.Short.{step-length}
 use Rattle.trace.specs.declared.Turn.{Turn}
-use Rattle.trace.specs.Running.{Shows, Turned, firstOf}
-
--- the queue of an unbroken struct is short
-pub queued-fits : (s : BatchSemaphore) (n : ℕ) → Fit s → n ≡ length (view s .queue) → n < 4294967296
-queued-fits s n f e = omega (arith, f .sound .room)
+use Rattle.trace.specs.Running.{Turned, firstOf}
 
 -- the line of an outcome, from what was printed
-pub outcome-printed : (o : Outcome) (c : Counts) (old new : List ℕ) (n e : ℕ) → Shows c (o .state) → Printed 180 old n (lineText (o .answer) c (o .grants)) new e → Printed 180 old n (outcomeText o) new e
-outcome-printed o c old new n e h p = rw (outcome-line o c (h .available) (h .stock) (h .closed) (h .queued)) at p
+pub outcome-printed : (o : Outcome) (c : Counts) (old new : List ℕ) (n e : ℕ) → ShownBy c (o .state) → Printed 180 old n (lineText (o .answer) c (o .grants)) new e → Printed 180 old n (outcomeText o) new e
+outcome-printed o c old new n e h p = rw (outcome-line o c h) at p
 
-pub step-printed : (r : Stepped) (c : Counts) (old new : List ℕ) (n e : ℕ) → Shows c (view (r .state)) → Printed 180 old n (lineText (answerOf (r .reply)) c (grantsOf (r .grants))) new e → Printed 180 old n (outcomeText (outcomeOf r)) new e
+pub step-printed : (r : Stepped) (c : Counts) (old new : List ℕ) (n e : ℕ) → ShownBy c (view (r .state)) → Printed 180 old n (lineText (answerOf (r .reply)) c (grantsOf (r .grants))) new e → Printed 180 old n (outcomeText (outcomeOf r)) new e
 step-printed r c old new n e h p = outcome-printed (outcomeOf r) c old new n e h p
 
-pub first-printed : (s : BatchSemaphore) (c : Counts) (g : Grants) (old new : List ℕ) (n e : ℕ) → Shows c (view s) → Holds g 0 [] → Printed 180 old n (lineText done c (grantsOf g)) new e → Printed 180 old n (firstOf (view s)) new e
+pub first-printed : (s : BatchSemaphore) (c : Counts) (g : Grants) (old new : List ℕ) (n e : ℕ) → ShownBy c (view s) → Holds g 0 [] → Printed 180 old n (lineText done c (grantsOf g)) new e → Printed 180 old n (firstOf (view s)) new e
 first-printed s c g old new n e h k p = outcome-printed (quiet done (view s)) c old new n e h (rw (k .view) at p)
 
 -- a step taken
@@ -69,12 +64,6 @@ turned-step s a r old new n e next f h p =
       fit = fit-after s a r f h;
       onto = refl;
     }
-
--- no step
-pub turned-bad : (s : BatchSemaphore) (old new : List ℕ) (n e next : ℕ) → Fit s → Appended old n (98 ∷ 97 ∷ 100 ∷ 10 ∷ []) new e
-    → Turned 45 none s old n next new (record { state = s; end = e; next = next })
-turned-bad s old new n e next f w =
-    record { printed = record { written = w; short = omega arith }; state = refl; fit = f; onto = refl }
 
 -- a turn by the same text and state, with more room
 same-turn : (o p : Option Step) (s : BatchSemaphore) (j k : ℕ) (old new : List ℕ) (n next : ℕ) (t : Turn) → printing o (view s) ≡ printing p (view s) → j ≤ k → Turned j o s old n next new t → Turned k p s old n next new t

@@ -1,39 +1,24 @@
 -- What a script's run has printed and left, line by line.
 use Prim.Native.Nat.{ℕ, _+_, _*_, _-_, _≤_, _<_}
 use mathlib.Core.Path.{_≡_}
-use mathlib.Core.Bool.{cond}
 use mathlib.Core.List.{List, _++_}
 use mathlib.Core.Option.{Option}
-use lib.Dec.{ltb}
 use lib.ListN.{length, take, drop}
 use Rattle.rules.specs.declared.Step.{Step}
-use Rattle.rules.specs.Sizes.{maxTasks}
-use Rattle.rules.specs.State.{State, available as availableOf}
-use Rattle.rules.specs.Fresh.{Start}
-use Rattle.rules.specs.Steps.{Outcome, quiet}
+use Rattle.rules.specs.State.{State}
+use Rattle.rules.specs.Steps.{quiet}
 use Rattle.rules.specs.Steps.Answer.{done}
-use Rattle.rules.specs.Runs.{start}
 use Rattle.rules.specs.Text.{lines}
-use Rattle.rules.specs.Script.{startWith, outcomeText, printing, trace, printed}
+use Rattle.rules.specs.Script.{outcomeText, printing, trace, printed}
 use Rattle.state.specs.declared.BatchSemaphore.{BatchSemaphore}
 use Rattle.state.specs.View.{view}
 use Rattle.broken.specs.Broken.{Fit}
-use Rattle.printing.specs.declared.Counts.{Counts}
 use Rattle.printing.specs.Printed.{Printed}
-use Rattle.script.specs.declared.First.{First}
-use Rattle.script.specs.Opening.{makerSaid}
 use Rattle.trace.specs.declared.Turn.{Turn}
 
 -- A line of k bytes, its line feed counted, prints at most 45 * k bytes: a step's line has at least 4 bytes and prints at most 180.
 abbrev pub room : List ℕ → ℕ
 room script = 45 * length script
-
--- what a line shows of a state
-pub record Shows (c : Counts) (s : State) : Type 0 where
-  pub available : c .available ≡ availableOf s
-  pub stock : c .stock ≡ s .permits .stock
-  pub closed : c .closed ≡ s .closed
-  pub queued : c .queued ≡ length (s .queue)
 
 -- a line printed in at most k bytes, and the state after it
 pub record Turned (k : ℕ) (o : Option Step) (s : BatchSemaphore) (old : List ℕ) (n next : ℕ) (new : List ℕ) (t : Turn) : Type 0 where
@@ -59,20 +44,10 @@ pub record Behind (old : List ℕ) (n : ℕ) (text new : List ℕ) (r : ℕ) : T
 abbrev pub firstOf : State → List ℕ
 firstOf s = outcomeText (quiet done s)
 
--- the start that a first line says, and its outcome
-abbrev pub startSaid : First → Start
-startSaid a = startWith (a .fairness) (a .stock) (makerSaid (a .maker)) (a .tasks)
-
-abbrev pub freshOf : First → Outcome
-freshOf a = start (startSaid a)
-
--- tasks times tasks, or none where there are too many
-abbrev pub entriesOf : ℕ → ℕ
-entriesOf n = cond (ltb maxTasks n) 0 (n * n)
-
--- WHAT IS PRINTED for a script's bytes stands in the buffer up to r. (The last part follows from the one before it; a caller that writes
--- `&out[..r]` finds it so.)
-pub record Prints (script out : List ℕ) (r : ℕ) : Type 0 where
-  pub text : take r out ≡ printed script
+-- WHAT IS PRINTED for a script's bytes: with 45 bytes of room for each of them it stands in the buffer up to r; with less, nothing was
+-- written. (The last part follows from the others; a caller that writes `&out[..r]` finds it so.)
+pub record Prints (script old out : List ℕ) (r : ℕ) : Type 0 where
+  pub text : room script ≤ length old → take r out ≡ printed script
+  pub short : length old < room script → (r ≡ 0) × (out ≡ old)
   pub fits : r ≤ length out
   pub counted : r ≡ length (take r out)

@@ -3,23 +3,20 @@ ghost use mathlib.Core.Path.{_≡_};
 ghost use mathlib.Core.List.{_++_};
 ghost use mathlib.Core.Option.{none, some};
 ghost use Prim.Native.Nat.{_+_, _*_, _-_, _≤_, _<_};
-ghost use lib.ListN.{length, drop, take, replicate};
+ghost use lib.ListN.{length, drop, take};
 ghost use Rattle.rules.specs.Text.{lines};
-ghost use Rattle.rules.specs.Script.{outcomeText, stepOf, startOf, trace as traced, traceFrom, program};
+ghost use Rattle.rules.specs.Script.{outcomeText, stepOf, startOf, trace as traced, traceFrom, program, printed};
 ghost use Rattle.state.specs.View.{view};
 ghost use Rattle.broken.specs.Broken.{Fit};
 ghost use Rattle.outcomes.specs.View.{outcomeOf};
 ghost use Rattle.printing.specs.Printed.{Printed};
-ghost use Rattle.fresh.specs.Starting.{Gives};
-ghost use Rattle.trace.specs.Running.{room, entriesOf, firstOf, startSaid, freshOf, Shows, Turned, Onward, Behind, Prints};
-use fresh::Started;
+ghost use Rattle.starting.specs.Said.{startSaid};
+ghost use Rattle.trace.specs.Running.{room, firstOf, Turned, Onward, Behind, Prints};
 use grants::Grants;
 use outcomes::Stepped;
-use printing::Counts;
 use replies::Reply;
 use rules::Step;
 use script::First;
-use script::Maker;
 use script::Opening;
 use script::Parsed;
 use state::BatchSemaphore;
@@ -32,33 +29,13 @@ pub struct Turn {
     pub next: usize,
 }
 
-// What a line shows of a state.
-fn counts(s: BatchSemaphore) -> Counts
-    requires { ⌜ Fit s ⌝ }
-    ensures { λ c. ⌜ Shows c (view s) ⌝ }
-{
-    let available = s.available_permits();
-    let stock = s.stock();
-    let closed = s.is_closed();
-    let queued = s.queue_length() as u32;
-    Counts {
-        available,
-        stock,
-        closed,
-        queued,
-    }
-}
-
 // The line of a step that was taken.
 fn print_step(out: &mut [u8], n: usize, r: Stepped) -> usize
-    requires { ⌜ (n + 180 ≤ length (now out)) × Fit (r .state) ⌝ }
+    requires { ⌜ n + 180 ≤ length (now out) ⌝ }
     ensures { λ e. ⌜ Printed 180 (now (out .entry)) n (outcomeText (outcomeOf r)) (now (out .exit)) e ⌝ }
 {
-    let state = r.state;
     let reply = r.reply;
-    let grants = r.grants;
-    let c = counts(state);
-    printing::print_line(out, n, reply, c, grants)
+    printing::print_line(out, n, reply, printing::counts_of(r.state), r.grants)
 }
 
 // A step is taken and its line printed; `next` is where the next line starts.
@@ -147,45 +124,12 @@ fn run_lines(
     n
 }
 
-// How many zeros the starting clocks of so many tasks have; 12 refuses more than 16 tasks whatever their clocks.
-fn entries(tasks: u32) -> usize
-    ensures { λ r. ⌜ r ≡ entriesOf tasks ⌝ }
-{
-    if 16 < tasks {
-        return 0;
-    }
-    let n = tasks as usize;
-    n * n
-}
-
-fn zeros() -> [u32; 256]
-    ensures { λ r. ⌜ r ≡ replicate 256 0 ⌝ }
-{
-    [0u32; 256]
-}
-
-// The start that a first line says.
-fn start(a: First) -> Started
-    ensures { λ r. ⌜ Gives r (freshOf a) ⌝ }
-{
-    let clocks = zeros();
-    let n = entries(a.tasks);
-    let fairness = a.fairness;
-    let maker = a.maker;
-    match maker {
-        Maker::Task(t) => fresh::new(fairness, a.stock, a.tasks, &clocks[..n], t),
-        Maker::Nobody => fresh::const_new(fairness, a.stock, a.tasks, &clocks[..n]),
-    }
-}
-
 // An accepted first line, and the lines behind it.
 fn run_fresh(script: &[u8], from: usize, s: BatchSemaphore, out: &mut [u8]) -> usize
     requires { ⌜ (from ≤ length (now script)) × (180 + 45 * (length (now script) - from) ≤ length (now out)) × Fit s ⌝ }
     ensures { λ r. ⌜ Behind (now (out .entry)) 0 (firstOf (view s) ++ traced (view s) (lines (drop from (now (script .entry))))) (now (out .exit)) r ⌝ }
 {
-    let c = counts(s);
-    let grants = Grants::none();
-    let n = printing::print_line(out, 0, Reply::Done, c, grants);
+    let n = printing::print_line(out, 0, Reply::Done, printing::counts_of(s), Grants::none());
     run_lines(script, from, s, out, n)
 }
 
@@ -194,12 +138,11 @@ fn run_from(script: &[u8], from: usize, a: First, out: &mut [u8]) -> usize
     requires { ⌜ (from ≤ length (now script)) × (180 + 45 * (length (now script) - from) ≤ length (now out)) ⌝ }
     ensures { λ r. ⌜ Behind (now (out .entry)) 0 (traceFrom (some (startSaid a)) (lines (drop from (now (script .entry))))) (now (out .exit)) r ⌝ }
 {
-    let r = start(a);
+    let r = starting::start(a);
     if r.refused {
         return text::put(out, 0, b"r12\n");
     }
-    let s = r.state;
-    run_fresh(script, from, s, out)
+    run_fresh(script, from, r.state, out)
 }
 
 // The first line, which ends at e, and the lines behind it.
@@ -225,13 +168,24 @@ fn run_whole(script: &[u8], out: &mut [u8]) -> usize
     }
 }
 
-// What `semtrace` prints for a script's bytes, written into a buffer with 45 bytes for each of them; answers how many bytes it wrote.
-pub fn run(script: &[u8], out: &mut [u8]) -> usize
+// A script of any length, with 45 bytes of room for each of its bytes.
+fn run_in(script: &[u8], out: &mut [u8]) -> usize
     requires { ⌜ room (now script) ≤ length (now out) ⌝ }
-    ensures { λ r. ⌜ Prints (now (script .entry)) (now (out .exit)) r ⌝ }
+    ensures { λ r. ⌜ Behind (now (out .entry)) 0 (printed (now (script .entry))) (now (out .exit)) r ⌝ }
 {
     if 65536 < script.len() {
         return text::put(out, 0, b"long\n");
     }
     run_whole(script, out)
+}
+
+// What `semtrace` prints for a script's bytes, written into a buffer; answers how many bytes it wrote. With less room than 45 bytes for
+// each byte of the script it writes nothing.
+pub fn run(script: &[u8], out: &mut [u8]) -> usize
+    ensures { λ r. ⌜ Prints (now (script .entry)) (now (out .entry)) (now (out .exit)) r ⌝ }
+{
+    if out.len() / 45 < script.len() {
+        return 0;
+    }
+    run_in(script, out)
 }

@@ -1,119 +1,188 @@
 // A script walked line by line, with the whole state after each step as text: what `semstate` prints and `replay` compares. Nothing here is
-// part of the promises.
+// part of the promises. What a line comes to is settled before any of it is printed.
 use fresh::Started;
+use grants::Grants;
+use outcomes::Stepped;
+use points::Told;
+use printing::Counts;
+use replies::Reply;
+use rules::Act;
 use rules::Fairness;
+use rules::Question;
 use rules::Step;
+use rules::TaskId;
 use script::First;
 use script::Maker;
 use script::Opening;
 use script::Parsed;
+use showing::Points;
 use state::BatchSemaphore;
-use task::Task;
 use text::NextLine;
 use text::Reading;
 
-// What a line left: the state after it, the place after its text, and whether the script goes on; whether it was a step, and whether
-// that was refused.
+// How the text for a line begins.
+enum Heading {
+    Nothing,
+    Bad,
+    Refused,
+    Line,
+}
+
+// What a line comes to: how its text begins, whether the whole state stands behind that, the reply, grants and state, the points, whether
+// the script goes on, and how many steps and refused steps it was.
 struct Shown {
-    pub state: BatchSemaphore,
-    pub end: usize,
+    pub heading: Heading,
+    pub whole: bool,
+    pub out: Stepped,
+    pub points: Points,
     pub on: bool,
-    pub step: bool,
-    pub refused: bool,
+    pub steps: usize,
+    pub refused: usize,
 }
 
-// A line that says nothing.
-fn bad(buf: &mut [u8], at: usize, s: BatchSemaphore, on: bool) -> Shown {
-    let end = showing::put(buf, at, b"bad\n");
-    Shown {
-        state: s,
-        end,
-        on,
-        step: false,
-        refused: false,
+// Which questions about points a step has.
+enum Questions {
+    None,
+    One(Question),
+    Two(Question, Question),
+}
+
+// None is asked where document 01 has no question; a drop has two.
+fn asked(act: Act) -> Questions {
+    match act {
+        Act::Poll(x) => Questions::One(Question::BeforePoll(x)),
+        Act::Try(_) => Questions::One(Question::BeforeTry),
+        Act::TryUpgrade { held, wanted } => Questions::One(Question::BeforeTryUpgrade {
+            held,
+            wanted,
+        }),
+        Act::Release(_) => Questions::One(Question::BeforeRelease),
+        Act::Drop(x) => Questions::Two(Question::BeforeDrop(x), Question::BeforeDropAgain(x)),
+        Act::Close => Questions::One(Question::BeforeClose),
+        _ => Questions::None,
     }
 }
 
-fn stepped(buf: &mut [u8], at: usize, s: BatchSemaphore, a: Step) -> Shown {
-    let r = semaphore::step(s, a);
-    let end = showing::put_stepped(buf, at, s, a, r);
-    let reply = r.reply;
-    let state = r.state;
+fn letter(t: Told) -> u8 {
+    match t {
+        Told::Point(b) => if b { b'1' } else { b'0' },
+        Told::Refused(_) => b'r',
+    }
+}
+
+fn point(s: BatchSemaphore, me: TaskId, q: Question) -> u8 {
+    letter(points::point(s, me, q))
+}
+
+fn no_points() -> Points {
+    Points {
+        first: b'-',
+        second: 0,
+    }
+}
+
+fn points_told(s: BatchSemaphore, me: TaskId, asked: Questions) -> Points {
+    match asked {
+        Questions::None => no_points(),
+        Questions::One(q) => Points {
+            first: point(s, me, q),
+            second: 0,
+        },
+        Questions::Two(q, r) => Points {
+            first: point(s, me, q),
+            second: point(s, me, r),
+        },
+    }
+}
+
+// The points before a step of a state.
+fn points_of(s: BatchSemaphore, a: Step) -> Points {
+    let act = a.act;
+    points_told(s, a.actor, asked(act))
+}
+
+fn is_refused(reply: Reply) -> bool {
+    match reply {
+        Reply::Done => false,
+        Reply::Granted => false,
+        Reply::Pending => false,
+        Reply::Closed => false,
+        Reply::NoPermits => false,
+        Reply::Made(_) => false,
+        Reply::Refused(_) => true,
+    }
+}
+
+fn one_if(b: bool) -> usize {
+    if b { 1 } else { 0 }
+}
+
+fn stepped(points: Points, out: Stepped) -> Shown {
+    let refused = is_refused(reply_of(out));
     Shown {
-        state,
-        end,
+        heading: Heading::Line,
+        whole: !refused,
+        out,
+        points,
         on: true,
-        step: true,
-        refused: showing::is_refused(reply),
+        steps: 1,
+        refused: one_if(refused),
     }
 }
 
-// The text for a line after the first, which a line feed ended.
-fn show_next(buf: &mut [u8], at: usize, s: BatchSemaphore, line: &[u8]) -> Shown {
-    let Parsed::Is(a) = script::step_of(line) else {
-        return bad(buf, at, s, true);
-    };
-    stepped(buf, at, s, a)
+// A step of a state.
+fn taken(s: BatchSemaphore, a: Step) -> Shown {
+    stepped(points_of(s, a), semaphore::step(s, a))
 }
 
-// As many entries as the clocks of so many tasks have: none where 12 refuses the number.
-fn entries_of(tasks: u32) -> usize {
-    if tasks <= 16 {
-        let n = tasks as usize;
-        return n * n;
+fn start_heading(fine: bool, refused: bool) -> Heading {
+    if !fine {
+        return Heading::Bad;
     }
-    0
+    if refused {
+        return Heading::Refused;
+    }
+    Heading::Line
 }
 
-fn start_with(f: First, clocks: &[u32]) -> Started {
-    let fairness = f.fairness;
-    let maker = f.maker;
-    match maker {
-        Maker::Task(t) => fresh::new(fairness, f.stock, f.tasks, clocks, t),
-        Maker::Nobody => fresh::const_new(fairness, f.stock, f.tasks, clocks),
+fn is_line(h: Heading) -> bool {
+    match h {
+        Heading::Line => true,
+        _ => false,
+    }
+}
+
+fn started(heading: Heading, s: BatchSemaphore) -> Shown {
+    let out = outcomes::quiet(Reply::Done, s);
+    let points = no_points();
+    let fine = is_line(heading);
+    Shown {
+        heading,
+        whole: fine,
+        out,
+        points,
+        on: fine,
+        steps: 0,
+        refused: 0,
     }
 }
 
 // A start whose clocks are the first n entries of a list. There are no more than the list has: else they are none, which 12 refuses.
 fn start_on(f: First, entries: &[u32], n: usize) -> Started {
     if n <= entries.len() {
-        return start_with(f, &entries[..n]);
+        return starting::start_with(f, &entries[..n]);
     }
-    start_with(f, &[])
+    starting::start_with(f, &[])
 }
 
-fn start(f: First) -> Started {
-    let zeros = [0u32; 256];
-    let n = entries_of(f.tasks);
-    start_on(f, &zeros, n)
-}
-
-fn started(buf: &mut [u8], at: usize, r: Started) -> Shown {
-    let state = r.state;
-    if r.refused {
-        let end = showing::put(buf, at, b"r12\n");
-        return Shown {
-            state,
-            end,
-            on: false,
-            step: false,
-            refused: false,
-        };
+// A sum, far from wrapping.
+pub fn sum(a: usize, b: usize) -> usize {
+    if a < 4611686018427387904 {
+        if b < 4611686018427387904 {
+            return a + b;
+        }
     }
-    let end = showing::put_start(buf, at, state);
-    Shown {
-        state,
-        end,
-        on: true,
-        step: false,
-        refused: false,
-    }
-}
-
-// What stands before the first line: 12's state.
-fn nothing() -> BatchSemaphore {
-    let r = fresh::const_new(Fairness::StrictlyFair, 0, 0, &[]);
-    r.state
+    a
 }
 
 // Where the field at a place of a line ends; and the field behind the one that ends at a place.
@@ -125,10 +194,7 @@ fn field_end(line: &[u8], at: usize) -> usize {
 }
 
 fn next_end(line: &[u8], at: usize) -> usize {
-    if line.len() <= at {
-        return line.len();
-    }
-    field_end(line, at + 1)
+    field_end(line, sum(at, 1))
 }
 
 // Where the fields of a first line without clocks end.
@@ -153,30 +219,29 @@ struct Entries {
     pub fine: bool,
 }
 
-fn entry(e: Entries, at: usize, on: bool, fine: bool) -> Entries {
+fn entry(count: usize, at: usize, on: bool, fine: bool) -> Entries {
     Entries {
-        count: showing::past(e.count, 1),
+        count: sum(count, 1),
         at,
         on,
         fine,
     }
 }
 
-fn read_entry(line: &[u8], out: &mut [u32], e: Entries) -> Entries {
-    let at = e.at;
+fn read_entry(line: &[u8], out: &mut [u32], count: usize, at: usize) -> Entries {
     if line.len() < at {
-        return entry(e, at, false, false);
+        return entry(count, at, false, false);
     }
     match text::number_at(line, at) {
         Reading::Last(x) => {
-            store(out, e.count, x);
-            entry(e, at, false, true)
+            store(out, count, x);
+            entry(count, at, false, true)
         }
         Reading::Then(x, next) => {
-            store(out, e.count, x);
-            entry(e, next, true, true)
+            store(out, count, x);
+            entry(count, next, true, true)
         }
-        Reading::Other => entry(e, at, false, false),
+        Reading::Other => entry(count, at, false, false),
     }
 }
 
@@ -190,7 +255,7 @@ fn read_entries(line: &[u8], from: usize, out: &mut [u32]) -> Entries {
     };
     let mut turns: u32 = 65540;
     while 0 < turns {
-        e = read_entry(line, out, e);
+        e = read_entry(line, out, e.count, e.at);
         turns -= 1;
         if !e.on {
             break;
@@ -199,60 +264,98 @@ fn read_entries(line: &[u8], from: usize, out: &mut [u32]) -> Entries {
     e
 }
 
-// The text for a first line whose clocks stand from a place on.
-fn show_clocks(buf: &mut [u8], at: usize, f: First, line: &[u8], from: usize) -> Shown {
-    let mut entries = [0u32; 256];
-    let e = read_entries(line, from, &mut entries);
-    if !e.fine {
-        return bad(buf, at, nothing(), false);
-    }
-    started(buf, at, start_on(f, &entries, e.count))
+// What a first line says: whether it is one, the start, and its clocks, of which there are n entries.
+struct Begun {
+    pub fine: bool,
+    pub start: First,
+    pub clocks: [u32; 256],
+    pub n: usize,
 }
 
-fn show_plain(buf: &mut [u8], at: usize, line: &[u8]) -> Shown {
-    let Opening::Is(f) = script::start_of(line) else {
-        return bad(buf, at, nothing(), false);
+fn not_begun() -> Begun {
+    let start = First {
+        fairness: Fairness::StrictlyFair,
+        stock: 0,
+        maker: Maker::Nobody,
+        tasks: 0,
     };
-    started(buf, at, start(f))
+    Begun {
+        fine: false,
+        start,
+        clocks: [0u32; 256],
+        n: 0,
+    }
 }
 
-fn show_both(buf: &mut [u8], at: usize, line: &[u8], end: usize) -> Shown {
+// The start of a first line whose fields without clocks end at a place.
+fn clocked(start: First, line: &[u8], end: usize) -> Begun {
+    let mut clocks = [0u32; 256];
     if line.len() <= end {
-        return show_plain(buf, at, line);
+        return Begun {
+            fine: true,
+            start,
+            clocks,
+            n: starting::entries(start.tasks),
+        };
     }
-    let Opening::Is(f) = script::start_of(&line[..end]) else {
-        return bad(buf, at, nothing(), false);
-    };
-    show_clocks(buf, at, f, line, end + 1)
+    let e = read_entries(line, sum(end, 1), &mut clocks);
+    Begun {
+        fine: e.fine,
+        start,
+        clocks,
+        n: e.count,
+    }
 }
 
-// The text for the first line, which a line feed ended. `clocks` lets starting clocks stand behind the tasks, row by row: ours, and not
-// document 01's.
-fn show_first(buf: &mut [u8], at: usize, line: &[u8], clocks: bool) -> Shown {
+fn plain_end(line: &[u8], clocks: bool) -> usize {
     if clocks {
-        return show_both(buf, at, line, fourth_end(line));
+        return fourth_end(line);
     }
-    show_plain(buf, at, line)
+    line.len()
 }
 
-// A walk through a script: the state, the place in the script, the place in the buffer after what was written, whether the next line is the
-// first and may have starting clocks, whether it goes on, and how many steps there were and how many of them were refused.
-pub struct Walk {
-    pub state: BatchSemaphore,
+// `clocks` lets starting clocks stand behind the tasks, row by row: ours, and not document 01's.
+fn begun_by(line: &[u8], clocks: bool) -> Begun {
+    let end = plain_end(line, clocks);
+    match script::start_of(showing::part(line, 0, end)) {
+        Opening::Is(f) => clocked(f, line, end),
+        Opening::Bad => not_begun(),
+    }
+}
+
+// The first line.
+fn opened(b: Begun) -> Shown {
+    let clocks = b.clocks;
+    let r = start_on(b.start, &clocks, b.n);
+    started(start_heading(b.fine, r.refused), r.state)
+}
+
+// Where a walk is: the place in the script, the place in the buffer after what was written, whether the next line is the first and may
+// have starting clocks, whether it goes on, and how many steps there were and how many of them were refused.
+pub struct Place {
     pub at: usize,
     pub end: usize,
     pub first: bool,
     pub clocks: bool,
     pub on: bool,
-    pub steps: u32,
-    pub refused: u32,
+    pub steps: usize,
+    pub refused: usize,
+}
+
+pub struct Walk {
+    pub state: BatchSemaphore,
+    pub place: Place,
+}
+
+// What stands before the first line: 12's state.
+fn nothing() -> BatchSemaphore {
+    let r = fresh::const_new(Fairness::StrictlyFair, 0, 0, &[]);
+    r.state
 }
 
 // Before the first line, which may have starting clocks.
 pub fn begin(end: usize, clocks: bool) -> Walk {
-    let state = nothing();
-    Walk {
-        state,
+    let place = Place {
         at: 0,
         end,
         first: true,
@@ -260,68 +363,137 @@ pub fn begin(end: usize, clocks: bool) -> Walk {
         on: true,
         steps: 0,
         refused: 0,
+    };
+    let state = nothing();
+    Walk { state, place }
+}
+
+fn put_heading(
+    buf: &mut [u8],
+    at: usize,
+    h: Heading,
+    reply: Reply,
+    counts: Counts,
+    grants: Grants,
+) -> usize {
+    match h {
+        Heading::Nothing => at,
+        Heading::Bad => showing::put(buf, at, b"bad\n"),
+        Heading::Refused => showing::put(buf, at, b"r12\n"),
+        Heading::Line => showing::put_line(buf, at, reply, counts, grants),
     }
 }
 
-fn counted(n: u32, more: bool) -> u32 {
-    if more {
-        if n < 4294967295 {
-            return n + 1;
-        }
+fn put_whole(
+    buf: &mut [u8],
+    at: usize,
+    whole: bool,
+    points: Points,
+    grants: Grants,
+    s: BatchSemaphore,
+) -> usize {
+    if whole {
+        return showing::put_behind(buf, at, points, grants, s);
     }
-    n
+    at
 }
 
-fn moved(w: Walk, at: usize, r: Shown) -> Walk {
-    let state = r.state;
-    Walk {
-        state,
-        at,
-        end: r.end,
-        first: false,
-        clocks: w.clocks,
-        on: r.on,
-        steps: counted(w.steps, r.step),
-        refused: counted(w.refused, r.refused),
+fn reply_of(out: Stepped) -> Reply {
+    out.reply
+}
+
+fn put_shown(buf: &mut [u8], at: usize, r: Shown) -> usize {
+    let heading = r.heading;
+    let reply = reply_of(r.out);
+    let counts = printing::counts_of(r.out.state);
+    let p = put_heading(buf, at, heading, reply, counts, r.out.grants);
+    put_whole(buf, p, r.whole, r.points, r.out.grants, r.out.state)
+}
+
+// What is to be done for a line: nothing but a word, and whether the script goes on behind it; a step; or the start.
+enum Todo {
+    Word(Heading, bool),
+    Take(Step),
+    Open,
+}
+
+fn todo_ended(line: &[u8], first: bool) -> Todo {
+    if first {
+        return Todo::Open;
+    }
+    match script::step_of(line) {
+        Parsed::Is(a) => Todo::Take(a),
+        Parsed::Bad => Todo::Word(Heading::Bad, true),
     }
 }
 
-fn stopped(w: Walk) -> Walk {
-    let mut out = w;
-    out.on = false;
+fn todo_at(script: &[u8], at: usize, first: bool) -> Todo {
+    match text::next_line(script, at) {
+        NextLine::Ended(e) => todo_ended(showing::part(script, at, e), first),
+        NextLine::Unended => Todo::Word(Heading::Bad, false),
+        NextLine::End => Todo::Word(Heading::Nothing, false),
+    }
+}
+
+fn with_word(heading: Heading, s: BatchSemaphore, on: bool) -> Shown {
+    let mut out = started(heading, s);
+    out.on = on;
     out
 }
 
-fn show_line(buf: &mut [u8], w: Walk, line: &[u8]) -> Shown {
-    if w.first {
-        return show_first(buf, w.end, line, w.clocks);
+fn done(s: BatchSemaphore, todo: Todo, line: &[u8], clocks: bool) -> Shown {
+    match todo {
+        Todo::Word(heading, on) => with_word(heading, s, on),
+        Todo::Take(a) => taken(s, a),
+        Todo::Open => opened(begun_by(line, clocks)),
     }
-    let state = w.state;
-    show_next(buf, w.end, state, line)
 }
 
-fn walk_line(buf: &mut [u8], script: &[u8], w: Walk, at: usize, e: usize) -> Walk {
-    if at <= e {
-        if e < script.len() {
-            let r = show_line(buf, w, &script[at..e]);
-            return moved(w, e + 1, r);
-        }
-    }
-    stopped(w)
+fn shown_at(script: &[u8], w: Walk) -> Shown {
+    let at = w.place.at;
+    let todo = todo_at(script, at, w.place.first);
+    done(
+        w.state,
+        todo,
+        showing::part(script, at, line_end(script, at)),
+        w.place.clocks,
+    )
 }
 
-fn walk_unended(buf: &mut [u8], script: &[u8], w: Walk) -> Walk {
-    let state = w.state;
-    let r = bad(buf, w.end, state, false);
-    moved(w, script.len(), r)
+// Where the line at a place ends.
+fn line_end(script: &[u8], at: usize) -> usize {
+    match text::next_line(script, at) {
+        NextLine::Ended(e) => e,
+        NextLine::Unended => script.len(),
+        NextLine::End => at,
+    }
+}
+
+fn moved(p: Place, line: usize, end: usize, on: bool, steps: usize, refused: usize) -> Place {
+    Place {
+        at: sum(line, 1),
+        end,
+        first: false,
+        clocks: p.clocks,
+        on,
+        steps: sum(p.steps, steps),
+        refused: sum(p.refused, refused),
+    }
+}
+
+fn walked(buf: &mut [u8], p: Place, line: usize, r: Shown) -> Walk {
+    let end = put_shown(buf, p.end, r);
+    let place = moved(p, line, end, r.on, r.steps, r.refused);
+    let state = r.out.state;
+    Walk { state, place }
 }
 
 // The text for the next line.
 pub fn walk_on(buf: &mut [u8], script: &[u8], w: Walk) -> Walk {
-    let at = w.at;
-    match text::next_line(script, at) {
-        NextLine::Ended(e) => walk_line(buf, script, w, at, e),
-        NextLine::Unended => walk_unended(buf, script, w),
-        NextLine::End => stopped(w),
-    }
+    walked(
+        buf,
+        w.place,
+        line_end(script, w.place.at),
+        shown_at(script, w),
+    )
 }

@@ -10,6 +10,9 @@ Inv-loop n i₀ i = (n ≤ 1000) × (i ≤ 1001)
 abbrev μ-loop : tie.MeasureT-loop
 μ-loop n i₀ i = 1001 - i
 
+tell-requires : tie.Need-tell-requires Inv-loop μ-loop
+tell-requires c κs = tt
+
 count-requires : tie.Need-count-requires Inv-loop μ-loop
 count-requires c κs = tt
 
@@ -43,6 +46,7 @@ main-spec =
     (tie.spec
     Inv-loop
     μ-loop
+    tell-requires
     count-requires
     loop-holds
     add-loop

@@ -10,8 +10,8 @@ Inv-loop buf n text from i₀ i = Unit {0}
 abbrev μ-loop : tie.MeasureT-loop
 μ-loop buf n text from i₀ i = n - i
 
-past-requires : tie.Need-past-requires Inv-loop μ-loop
-past-requires c κs = search needs
+sum-requires : tie.Need-sum-requires Inv-loop μ-loop
+sum-requires c κs = search needs
 
 returns : tie.Need-returns Inv-loop μ-loop
 returns c = search needs
@@ -22,8 +22,8 @@ loop-holds c = search needs
 byte-at-requires : tie.Need-byte-at-requires Inv-loop μ-loop
 byte-at-requires c κs = search needs
 
-past-requires-2 : tie.Need-past-requires-2 Inv-loop μ-loop
-past-requires-2 c κs = search needs
+sum-requires-2 : tie.Need-sum-requires-2 Inv-loop μ-loop
+sum-requires-2 c κs = search needs
 
 byte-at-requires-2 : tie.Need-byte-at-requires-2 Inv-loop μ-loop
 byte-at-requires-2 c κs = search needs
@@ -49,11 +49,11 @@ stands-spec =
     (tie.spec
     Inv-loop
     μ-loop
-    past-requires
+    sum-requires
     returns
     loop-holds
     byte-at-requires
-    past-requires-2
+    sum-requires-2
     byte-at-requires-2
     returns-2
     add-i

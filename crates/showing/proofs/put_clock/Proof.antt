@@ -1,31 +1,37 @@
 -- `showing::put_clock`: only the length of the buffer is kept.
-use Prim.Native.Nat.{_-_}
 use borrow.Author.Needs.{needs}
+use Prim.Native.Nat.{_-_}
 use lib.ListN.{length}
 use mathlib.Core.Path.{_≡_}
 use Rattle.showing.proofs.put_clock.Statement.{statement}
 use Rattle.showing.proofs.put_clock.Tie as tie
 
 abbrev Inv-loop : tie.InvT-loop
-Inv-loop buf₀ at words base n p₀ i₀ buf p i = length buf ≡ length buf₀
+Inv-loop buf₀ at words row n p₀ i₀ buf p i = length buf ≡ length buf₀
 
 abbrev μ-loop : tie.MeasureT-loop
-μ-loop buf₀ at words base n p₀ i₀ buf p i = n - i
+μ-loop buf₀ at words row n p₀ i₀ buf p i = n - i
 
 loop-holds : tie.Need-loop-holds Inv-loop μ-loop
 loop-holds c = search needs
 
-put-gap-requires : tie.Need-put-gap-requires Inv-loop μ-loop
-put-gap-requires c κs = search needs
+gap-requires : tie.Need-gap-requires Inv-loop μ-loop
+gap-requires c κs = search needs
 
-past-requires : tie.Need-past-requires Inv-loop μ-loop
-past-requires c κs = search needs
+entry-requires : tie.Need-entry-requires Inv-loop μ-loop
+entry-requires c κs = search needs
 
 word-requires : tie.Need-word-requires Inv-loop μ-loop
 word-requires c κs = search needs
 
-put-number-requires : tie.Need-put-number-requires Inv-loop μ-loop
-put-number-requires c κs = search needs
+cast-t15 : tie.Need-cast-t15 Inv-loop μ-loop
+cast-t15 c = search needs
+
+slice-aggregate-put-pieces : tie.Need-slice-aggregate-put-pieces Inv-loop μ-loop
+slice-aggregate-put-pieces c = search needs
+
+put-pieces-requires : tie.Need-put-pieces-requires Inv-loop μ-loop
+put-pieces-requires c κs = search needs
 
 add-i : tie.Need-add-i Inv-loop μ-loop
 add-i c = search needs
@@ -49,10 +55,12 @@ put-clock-spec =
     Inv-loop
     μ-loop
     loop-holds
-    put-gap-requires
-    past-requires
+    gap-requires
+    entry-requires
     word-requires
-    put-number-requires
+    cast-t15
+    slice-aggregate-put-pieces
+    put-pieces-requires
     add-i
     loop-less
     loop-again

@@ -1,6 +1,6 @@
 -- `showing::put_each_grant`: only the length of the buffer is kept.
-use Prim.Native.Nat.{_-_}
 use borrow.Author.Needs.{needs}
+use Prim.Native.Nat.{_-_}
 use lib.ListN.{length}
 use mathlib.Core.Path.{_≡_}
 use Rattle.showing.proofs.put_each_grant.Statement.{statement}
@@ -15,8 +15,11 @@ abbrev μ-loop : tie.MeasureT-loop
 loop-holds : tie.Need-loop-holds Inv-loop μ-loop
 loop-holds c = search needs
 
-put-grant-at-requires : tie.Need-put-grant-at-requires Inv-loop μ-loop
-put-grant-at-requires c κs = search needs
+grant-requires : tie.Need-grant-requires Inv-loop μ-loop
+grant-requires c κs = search needs
+
+put-grant-requires : tie.Need-put-grant-requires Inv-loop μ-loop
+put-grant-requires c κs = search needs
 
 add-i : tie.Need-add-i Inv-loop μ-loop
 add-i c = search needs
@@ -40,7 +43,8 @@ put-each-grant-spec =
     Inv-loop
     μ-loop
     loop-holds
-    put-grant-at-requires
+    grant-requires
+    put-grant-requires
     add-i
     loop-less
     loop-again

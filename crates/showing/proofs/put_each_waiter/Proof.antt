@@ -1,6 +1,6 @@
 -- `showing::put_each_waiter`: only the length of the buffer is kept.
-use Prim.Native.Nat.{_-_}
 use borrow.Author.Needs.{needs}
+use Prim.Native.Nat.{_-_}
 use lib.ListN.{length}
 use mathlib.Core.Path.{_≡_}
 use Rattle.showing.proofs.put_each_waiter.Statement.{statement}
@@ -15,8 +15,14 @@ abbrev μ-loop : tie.MeasureT-loop
 loop-holds : tie.Need-loop-holds Inv-loop μ-loop
 loop-holds c = search needs
 
-put-waiter-at-requires : tie.Need-put-waiter-at-requires Inv-loop μ-loop
-put-waiter-at-requires c κs = search needs
+waiter-requires : tie.Need-waiter-requires Inv-loop μ-loop
+waiter-requires c κs = search needs
+
+slice-aggregate-put-pieces : tie.Need-slice-aggregate-put-pieces Inv-loop μ-loop
+slice-aggregate-put-pieces c = search needs
+
+put-pieces-requires : tie.Need-put-pieces-requires Inv-loop μ-loop
+put-pieces-requires c κs = search needs
 
 add-i : tie.Need-add-i Inv-loop μ-loop
 add-i c = search needs
@@ -40,7 +46,9 @@ put-each-waiter-spec =
     Inv-loop
     μ-loop
     loop-holds
-    put-waiter-at-requires
+    waiter-requires
+    slice-aggregate-put-pieces
+    put-pieces-requires
     add-i
     loop-less
     loop-again

@@ -4,14 +4,11 @@ use borrow.Author.Needs.{needs}
 use Rattle.showing.proofs.put_number.Statement.{statement}
 use Rattle.showing.proofs.put_number.Tie as tie
 
+left-requires : tie.Need-left-requires
+left-requires c κs = search needs
+
 returns : tie.Need-returns
 returns c = search needs
-
-sub-if2 : tie.Need-sub-if2
-sub-if2 c = search needs
-
-returns-2 : tie.Need-returns-2
-returns-2 c = search needs
 
 print-number-requires : tie.Need-print-number-requires
 print-number-requires c κs = search (room-left, needs)
@@ -19,9 +16,9 @@ print-number-requires c κs = search (room-left, needs)
 same-length : tie.Need-same-length
 same-length c = search needs
 
-returns-3 : tie.Need-returns-3
-returns-3 c = search needs
+returns-2 : tie.Need-returns-2
+returns-2 c = search needs
 
 pub put-number-spec : {M : Type 1} → statement M
 put-number-spec =
-    tie.close (tie.spec returns sub-if2 returns-2 print-number-requires same-length returns-3)
+    tie.close (tie.spec left-requires returns print-number-requires same-length returns-2)

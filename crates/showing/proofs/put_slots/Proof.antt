@@ -1,6 +1,6 @@
 -- `showing::put_slots`: only the length of the buffer is kept.
-use Prim.Native.Nat.{_-_}
 use borrow.Author.Needs.{needs}
+use Prim.Native.Nat.{_-_}
 use lib.ListN.{length}
 use mathlib.Core.Path.{_≡_}
 use Rattle.showing.proofs.put_slots.Statement.{statement}
@@ -15,8 +15,11 @@ abbrev μ-loop : tie.MeasureT-loop
 loop-holds : tie.Need-loop-holds Inv-loop μ-loop
 loop-holds c = search needs
 
-put-slot-at-requires : tie.Need-put-slot-at-requires Inv-loop μ-loop
-put-slot-at-requires c κs = search needs
+get-requires : tie.Need-get-requires Inv-loop μ-loop
+get-requires c κs = search needs
+
+put-slot-requires : tie.Need-put-slot-requires Inv-loop μ-loop
+put-slot-requires c κs = search needs
 
 add-i : tie.Need-add-i Inv-loop μ-loop
 add-i c = search needs
@@ -40,7 +43,8 @@ put-slots-spec =
     Inv-loop
     μ-loop
     loop-holds
-    put-slot-at-requires
+    get-requires
+    put-slot-requires
     add-i
     loop-less
     loop-again

@@ -1,6 +1,6 @@
 -- `showing::put_tasks`: only the length of the buffer is kept.
-use Prim.Native.Nat.{_-_}
 use borrow.Author.Needs.{needs}
+use Prim.Native.Nat.{_-_}
 use lib.ListN.{length}
 use mathlib.Core.Path.{_≡_}
 use Rattle.showing.proofs.put_tasks.Statement.{statement}
@@ -15,8 +15,11 @@ abbrev μ-loop : tie.MeasureT-loop
 loop-holds : tie.Need-loop-holds Inv-loop μ-loop
 loop-holds c = search needs
 
-put-task-at-requires : tie.Need-put-task-at-requires Inv-loop μ-loop
-put-task-at-requires c κs = search needs
+get-requires : tie.Need-get-requires Inv-loop μ-loop
+get-requires c κs = search needs
+
+put-task-requires : tie.Need-put-task-requires Inv-loop μ-loop
+put-task-requires c κs = search needs
 
 add-i : tie.Need-add-i Inv-loop μ-loop
 add-i c = search needs
@@ -40,7 +43,8 @@ put-tasks-spec =
     Inv-loop
     μ-loop
     loop-holds
-    put-task-at-requires
+    get-requires
+    put-task-requires
     add-i
     loop-less
     loop-again

@@ -4,8 +4,8 @@ use borrow.Author.Needs.{needs}
 use Rattle.trace.proofs.print_step.Statement.{statement}
 use Rattle.trace.proofs.print_step.Tie as tie
 
-counts-requires : tie.Need-counts-requires
-counts-requires c κs = search needs
+counts-of-requires : tie.Need-counts-of-requires
+counts-of-requires c κs = search needs
 
 print-line-requires : tie.Need-print-line-requires
 print-line-requires c κs = search needs
@@ -17,4 +17,4 @@ returns : tie.Need-returns
 returns c = search (step-printed, needs)
 
 pub print-step-spec : {M : Type 1} → statement M
-print-step-spec = tie.close (tie.spec counts-requires print-line-requires same-length returns)
+print-step-spec = tie.close (tie.spec counts-of-requires print-line-requires same-length returns)

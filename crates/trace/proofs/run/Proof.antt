@@ -1,38 +1,20 @@
--- `trace::run`: `long`, or what the script prints.
-use Rattle.trace.proofs.Firsts.{prints-long, prints-short}
+-- `trace::run`: with room and without.
+use Rattle.trace.proofs.Firsts.{prints-nothing, prints-in, short-room, enough-room}
 use borrow.Author.Needs.{needs}
 use Rattle.trace.proofs.run.Statement.{statement}
 use Rattle.trace.proofs.run.Tie as tie
 
-slice-aggregate-put : tie.Need-slice-aggregate-put
-slice-aggregate-put c = search needs
+returns : tie.Need-returns
+returns c = search (prints-nothing, short-room, needs)
 
-put-requires : tie.Need-put-requires
-put-requires c κs = search needs
+run-in-requires : tie.Need-run-in-requires
+run-in-requires c κs = search needs
 
 same-length : tie.Need-same-length
 same-length c = search needs
 
-returns : tie.Need-returns
-returns c = search (prints-long, needs)
-
-run-whole-requires : tie.Need-run-whole-requires
-run-whole-requires c κs = search needs
-
-same-length-2 : tie.Need-same-length-2
-same-length-2 c = search needs
-
 returns-2 : tie.Need-returns-2
-returns-2 c = search (prints-short, needs)
+returns-2 c = search (prints-in, enough-room, needs)
 
 pub run-spec : {M : Type 1} → statement M
-run-spec =
-    tie.close
-    (tie.spec
-    slice-aggregate-put
-    put-requires
-    same-length
-    returns
-    run-whole-requires
-    same-length-2
-    returns-2)
+run-spec = tie.close (tie.spec returns run-in-requires same-length returns-2)

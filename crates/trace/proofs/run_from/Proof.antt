@@ -1,7 +1,7 @@
 -- `trace::run_from`: `r12`, or the line of the fresh state and the others behind it.
 use native.Mathlib.Omega.{arith}
 use Rattle.fresh.proofs.Starts.{started-fit}
-use Rattle.trace.specs.Running.{startSaid}
+use Rattle.starting.specs.Said.{startSaid}
 use Rattle.trace.proofs.Firsts.{first-refused, first-accepted}
 use borrow.Author.Needs.{needs}
 use Rattle.trace.proofs.run_from.Statement.{statement}
@@ -23,13 +23,13 @@ returns : tie.Need-returns
 returns c = first-refused (startSaid (c .before .before .before .before .before .before .before .before .before .args .a)) (c .before .before .before .before .before .before .start .result) (c .before .before .before .before .before .before .start .ensures) _ _ _ _ (c .before .before .before .before .before .if1 .taken) (omega (arith, c .before .before .before .before .before .before .before .before .before .pre .1)) (c .before .before .put .ensures)
 
 run-fresh-requires : tie.Need-run-fresh-requires
-run-fresh-requires c κs = (c .before .before .before .before .before .before .pre .0, c .before .before .before .before .before .before .pre .1, started-fit (c .before .before .before .start .result) (startSaid (c .before .before .before .before .before .before .args .a)) (c .before .before .before .start .ensures))
+run-fresh-requires c κs = (c .before .before .before .before .before .pre .0, c .before .before .before .before .before .pre .1, started-fit (c .before .before .start .result) (startSaid (c .before .before .before .before .before .args .a)) (c .before .before .start .ensures))
 
 same-length-2 : tie.Need-same-length-2
 same-length-2 c = search needs
 
 returns-2 : tie.Need-returns-2
-returns-2 c = first-accepted (startSaid (c .before .before .before .before .before .before .before .before .before .args .a)) (c .before .before .before .before .before .before .start .result) (c .before .before .before .before .before .before .start .ensures) _ _ _ _ (c .before .before .before .before .before .if1 .left) (c .before .before .run-fresh .ensures)
+returns-2 c = first-accepted (startSaid (c .before .before .before .before .before .before .before .before .args .a)) (c .before .before .before .before .before .start .result) (c .before .before .before .before .before .start .ensures) _ _ _ _ (c .before .before .before .before .if1 .left) (c .before .before .run-fresh .ensures)
 
 pub run-from-spec : {M : Type 1} → statement M
 run-from-spec =

@@ -1,5 +1,5 @@
 -- `trace::take_step`: the step, and its line.
-use Rattle.trace.proofs.Lines.{fit-after, turned-step}
+use Rattle.trace.proofs.Lines.{turned-step}
 use borrow.Author.Needs.{needs}
 use Rattle.trace.proofs.take_step.Statement.{statement}
 use Rattle.trace.proofs.take_step.Tie as tie
@@ -8,7 +8,7 @@ step-requires : tie.Need-step-requires
 step-requires c κs = search needs
 
 print-step-requires : tie.Need-print-step-requires
-print-step-requires c κs = (search needs, fit-after (c .before .before .before .args .s) (c .before .before .before .args .a) (c .before .step .result) (c .before .before .before .pre .1) (c .before .step .ensures))
+print-step-requires c κs = search needs
 
 same-length : tie.Need-same-length
 same-length c = search needs

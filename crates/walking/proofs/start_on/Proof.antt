@@ -1,4 +1,4 @@
--- `walking::start_on`: a part of a list that is long enough has as many entries as asked.
+-- `walking::start_on`: a part of a list that is long enough is as long as asked.
 use lib.Seq.{length-take-le}
 use mathlib.Core.Path.{sym}
 use native.Mathlib.Omega.{arith}

@@ -1,8 +1,8 @@
--- `trace::entries`: a square, or none.
-use Rattle.trace.proofs.Firsts.{too-many, not-too-many, entries-small}
+-- `starting::entries`: a square, or none.
+use Rattle.starting.proofs.Clocks.{too-many, not-too-many, entries-small}
 use borrow.Author.Needs.{needs}
-use Rattle.trace.proofs.entries.Statement.{statement}
-use Rattle.trace.proofs.entries.Tie as tie
+use Rattle.starting.proofs.entries.Statement.{statement}
+use Rattle.starting.proofs.entries.Tie as tie
 
 returns : tie.Need-returns
 returns c = search (too-many, needs)

@@ -1,22 +1,19 @@
--- `showing::put_each_batch`: only the length of the buffer is kept.
-use Prim.Native.Nat.{_-_}
+-- `showing::put_ring`: only the length of the buffer is kept.
 use borrow.Author.Needs.{needs}
+use Prim.Native.Nat.{_-_}
 use lib.ListN.{length}
 use mathlib.Core.Path.{_≡_}
-use Rattle.showing.proofs.put_each_batch.Statement.{statement}
-use Rattle.showing.proofs.put_each_batch.Tie as tie
+use Rattle.showing.proofs.put_ring.Statement.{statement}
+use Rattle.showing.proofs.put_ring.Tie as tie
 
 abbrev Inv-loop : tie.InvT-loop
-Inv-loop buf₀ at head count n sizes clocks p₀ i₀ buf p i = length buf ≡ length buf₀
+Inv-loop buf₀ at count n sizes clocks head p₀ i₀ buf p i = length buf ≡ length buf₀
 
 abbrev μ-loop : tie.MeasureT-loop
-μ-loop buf₀ at head count n sizes clocks p₀ i₀ buf p i = count - i
+μ-loop buf₀ at count n sizes clocks head p₀ i₀ buf p i = count - i
 
 loop-holds : tie.Need-loop-holds Inv-loop μ-loop
 loop-holds c = search needs
-
-put-gap-requires : tie.Need-put-gap-requires Inv-loop μ-loop
-put-gap-requires c κs = search needs
 
 slice-aggregate-put-batch : tie.Need-slice-aggregate-put-batch Inv-loop μ-loop
 slice-aggregate-put-batch c = search needs
@@ -45,14 +42,13 @@ same-length c = search needs
 returns : tie.Need-returns Inv-loop μ-loop
 returns c = search needs
 
-pub put-each-batch-spec : {M : Type 1} → statement M
-put-each-batch-spec =
+pub put-ring-spec : {M : Type 1} → statement M
+put-ring-spec =
     tie.close
     (tie.spec
     Inv-loop
     μ-loop
     loop-holds
-    put-gap-requires
     slice-aggregate-put-batch
     slice-aggregate-put-batch-2
     place-of-requires

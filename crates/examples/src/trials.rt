@@ -80,7 +80,7 @@ fn say_too_long() {
     io::write_all(STDOUT_FILENO, &out[..k]);
 }
 
-fn main() {
+pub fn tell() {
     say_refusal();
     say_lent();
     say_longest();

@@ -1,8 +1,11 @@
--- `trace::counts`: the reads of the state; its queue is short.
-use Rattle.trace.proofs.Lines.{queued-fits}
+-- `printing::counts_of`: the reads of the state; its queue is no longer than its array.
+use Rattle.printing.proofs.Lines.{queued-fits}
 use borrow.Author.Needs.{needs}
-use Rattle.trace.proofs.counts.Statement.{statement}
-use Rattle.trace.proofs.counts.Tie as tie
+use mathlib.Core.Path.{_≡_}
+use lib.ListN.{length}
+use Rattle.rules.proofs.Places.{unmap}
+use Rattle.printing.proofs.counts_of.Statement.{statement}
+use Rattle.printing.proofs.counts_of.Tie as tie
 
 available-permits-requires : tie.Need-available-permits-requires
 available-permits-requires c κs = search needs
@@ -17,13 +20,15 @@ queue-length-requires : tie.Need-queue-length-requires
 queue-length-requires c κs = search needs
 
 cast-queued : tie.Need-cast-queued
-cast-queued c = record { fits = search (queued-fits, needs) }
+cast-queued c =
+    let n : length (c .before .before .before .before .args .s .waiters .slots) ≡ 32 = search (needs, unmap) in
+    record { fits = search (queued-fits, needs) }
 
 returns : tie.Need-returns
 returns c = search needs
 
-pub counts-spec : {M : Type 1} → statement M
-counts-spec =
+pub counts-of-spec : {M : Type 1} → statement M
+counts-of-spec =
     tie.close
     (tie.spec
     available-permits-requires
