@@ -1,4 +1,4 @@
-// A script walked line by line, with the whole state after each step as text: what `semstate` prints and `replay` compares. Nothing here is
+// A script walked line by line, with the whole state after each step as text: what `replay` prints and compares. Nothing here is
 // part of the promises. What a line comes to is settled before any of it is printed.
 use fresh::Started;
 use grants::Grants;

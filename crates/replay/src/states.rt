@@ -1,6 +1,6 @@
-// Runs scripts and prints the whole state after each line, as `oracle --state` does. With no argument standard input is one script. With
-// any, it is many: before each stand the two bytes of its length, the high one first, and behind what is printed for it a line `end`;
-// and a first line may have starting clocks, as for `oracle --state --clocks`.
+// Prints the whole state after each line, as `oracle --state` does: of the script on standard input, or of many. Before each of many stand
+// the two bytes of its length, the high one first, and behind what is printed for it a line `end`; and a first line may have starting clocks,
+// as for `oracle --state --clocks`.
 use walking::Walk;
 
 // A buffer with so much in it is written out: the text for one line fits what is left of it.
@@ -43,15 +43,16 @@ fn run(buf: &mut [u8], at: usize, script: &[u8], clocks: bool) -> usize {
     w.place.end
 }
 
-fn run_one(buf: &mut [u8]) {
+pub fn run_one() {
+    let mut buf = io::large_buffer();
     let mut script = [0u8; 65537];
     let n = io::read_full(0, &mut script);
     if MOST < n {
         io::write_all(1, b"long\n");
         return;
     }
-    let end = run(buf, 0, &script[..n], false);
-    write_out(buf, end);
+    let end = run(&mut buf, 0, &script[..n], false);
+    write_out(&buf, end);
 }
 
 fn length_of(high: u8, low: u8) -> usize {
@@ -104,17 +105,9 @@ fn run_each(buf: &mut [u8], script: &mut [u8]) -> usize {
     r.end
 }
 
-fn run_many(buf: &mut [u8]) {
-    let mut script = [0u8; 65535];
-    let end = run_each(buf, &mut script);
-    write_out(buf, end);
-}
-
-fn main() {
+pub fn run_many() {
     let mut buf = io::large_buffer();
-    if os::arg_count() < 2 {
-        run_one(&mut buf);
-    } else {
-        run_many(&mut buf);
-    }
+    let mut script = [0u8; 65535];
+    let end = run_each(&mut buf, &mut script);
+    write_out(&buf, end);
 }

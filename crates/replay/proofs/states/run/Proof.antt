@@ -1,18 +1,18 @@
--- `replay::run`: the turns that are left; only the length of the buffer is kept.
+-- `replay::states::run`: the turns that are left; only the length of the buffer is kept.
 use borrow.Author.Needs.{needs}
 use lib.ListN.{length}
 use mathlib.Core.Path.{_≡_}
-use Rattle.replay.proofs.run.Statement.{statement}
-use Rattle.replay.proofs.run.Tie as tie
+use Rattle.replay.proofs.states.run.Statement.{statement}
+use Rattle.replay.proofs.states.run.Tie as tie
 
 abbrev Inv-loop : tie.InvT-loop
-Inv-loop got₀ script want clocks r₀ turns₀ got r turns = length got ≡ length got₀
+Inv-loop buf₀ at script clocks w₀ turns₀ buf w turns = length buf ≡ length buf₀
 
 abbrev μ-loop : tie.MeasureT-loop
-μ-loop got₀ script want clocks r₀ turns₀ got r turns = turns
+μ-loop buf₀ at script clocks w₀ turns₀ buf w turns = turns
 
-begun-requires : tie.Need-begun-requires Inv-loop μ-loop
-begun-requires c κs = search needs
+begin-requires : tie.Need-begin-requires Inv-loop μ-loop
+begin-requires c κs = search needs
 
 loop-holds : tie.Need-loop-holds Inv-loop μ-loop
 loop-holds c = search needs
@@ -41,19 +41,13 @@ same-length-2 c = search needs
 returns-2 : tie.Need-returns-2 Inv-loop μ-loop
 returns-2 c = search needs
 
-same-length-3 : tie.Need-same-length-3 Inv-loop μ-loop
-same-length-3 c = search needs
-
-returns-3 : tie.Need-returns-3 Inv-loop μ-loop
-returns-3 c = search needs
-
 pub run-spec : {M : Type 1} → statement M
 run-spec =
     tie.close
     (tie.spec
     Inv-loop
     μ-loop
-    begun-requires
+    begin-requires
     loop-holds
     turn-requires
     sub-turns
@@ -62,6 +56,4 @@ run-spec =
     same-length
     returns
     same-length-2
-    returns-2
-    same-length-3
-    returns-3)
+    returns-2)

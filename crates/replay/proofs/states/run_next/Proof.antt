@@ -1,10 +1,10 @@
--- `semstate::run_next`: a part of a buffer that is long enough is as long as asked.
+-- `replay::states::run_next`: a part of a buffer that is long enough is as long as asked.
 use lib.Seq.{length-take-le}
 use mathlib.Core.Path.{sym}
 use native.Mathlib.Omega.{arith}
 use borrow.Author.Needs.{needs}
-use Rattle.semstate.proofs.run_next.Statement.{statement}
-use Rattle.semstate.proofs.run_next.Tie as tie
+use Rattle.replay.proofs.states.run_next.Statement.{statement}
+use Rattle.replay.proofs.states.run_next.Tie as tie
 
 read-length-requires : tie.Need-read-length-requires
 read-length-requires c κs = search needs

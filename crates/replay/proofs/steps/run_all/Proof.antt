@@ -1,11 +1,11 @@
 use borrow.Author.Needs.{needs}
 use native.Mathlib.Omega.{arith}
-use Rattle.bench.proofs.main.Statement.{statement}
-use Rattle.bench.proofs.main.Tie as tie
-use Rattle.bench.proofs.main.Reads as reads
-use Rattle.bench.proofs.main.Lts as lts
-use Rattle.bench.proofs.begun.Reads as begun-reads
-use Rattle.bench.proofs.read_and_run.Reads as read-and-run-reads
+use Rattle.replay.proofs.steps.run_all.Statement.{statement}
+use Rattle.replay.proofs.steps.run_all.Tie as tie
+use Rattle.replay.proofs.steps.run_all.Reads as reads
+use Rattle.replay.proofs.steps.run_all.Lts as lts
+use Rattle.replay.proofs.steps.begun.Reads as begun-reads
+use Rattle.replay.proofs.steps.read_and_run.Reads as read-and-run-reads
 use Rattle.io.proofs.print_decimal.Reads as print-decimal-reads
 
 abbrev Inv-loop : tie.InvT-loop
@@ -46,8 +46,8 @@ print-decimal-requires c κs = tt
 returns : tie.Need-returns Inv-loop μ-loop
 returns c = tt
 
-pub main-spec : {M : Type 1} → statement M
-main-spec =
+pub run-all-spec : {M : Type 1} → statement M
+run-all-spec =
     tie.close
     (tie.spec
     Inv-loop

@@ -1,9 +1,9 @@
--- `semstate::run_each`: the turns that are left; the lengths of the buffers are kept.
+-- `replay::states::run_each`: the turns that are left; the lengths of the buffers are kept.
 use borrow.Author.Needs.{needs}
 use lib.ListN.{length}
 use mathlib.Core.Path.{_≡_}
-use Rattle.semstate.proofs.run_each.Statement.{statement}
-use Rattle.semstate.proofs.run_each.Tie as tie
+use Rattle.replay.proofs.states.run_each.Statement.{statement}
+use Rattle.replay.proofs.states.run_each.Tie as tie
 
 abbrev Inv-loop : tie.InvT-loop
 Inv-loop buf₀ script₀ r₀ turns₀ buf script r turns = (length buf ≡ length buf₀) × (length script ≡ length script₀)

@@ -1,18 +1,18 @@
--- `semstate::run`: the turns that are left; only the length of the buffer is kept.
+-- `replay::sample::run_script`: the turns that are left; only the length of the buffer is kept.
 use borrow.Author.Needs.{needs}
 use lib.ListN.{length}
 use mathlib.Core.Path.{_≡_}
-use Rattle.semstate.proofs.run.Statement.{statement}
-use Rattle.semstate.proofs.run.Tie as tie
+use Rattle.replay.proofs.sample.run_script.Statement.{statement}
+use Rattle.replay.proofs.sample.run_script.Tie as tie
 
 abbrev Inv-loop : tie.InvT-loop
-Inv-loop buf₀ at script clocks w₀ turns₀ buf w turns = length buf ≡ length buf₀
+Inv-loop got₀ script want clocks r₀ turns₀ got r turns = length got ≡ length got₀
 
 abbrev μ-loop : tie.MeasureT-loop
-μ-loop buf₀ at script clocks w₀ turns₀ buf w turns = turns
+μ-loop got₀ script want clocks r₀ turns₀ got r turns = turns
 
-begin-requires : tie.Need-begin-requires Inv-loop μ-loop
-begin-requires c κs = search needs
+begun-requires : tie.Need-begun-requires Inv-loop μ-loop
+begun-requires c κs = search needs
 
 loop-holds : tie.Need-loop-holds Inv-loop μ-loop
 loop-holds c = search needs
@@ -41,13 +41,19 @@ same-length-2 c = search needs
 returns-2 : tie.Need-returns-2 Inv-loop μ-loop
 returns-2 c = search needs
 
-pub run-spec : {M : Type 1} → statement M
-run-spec =
+same-length-3 : tie.Need-same-length-3 Inv-loop μ-loop
+same-length-3 c = search needs
+
+returns-3 : tie.Need-returns-3 Inv-loop μ-loop
+returns-3 c = search needs
+
+pub run-script-spec : {M : Type 1} → statement M
+run-script-spec =
     tie.close
     (tie.spec
     Inv-loop
     μ-loop
-    begin-requires
+    begun-requires
     loop-holds
     turn-requires
     sub-turns
@@ -56,4 +62,6 @@ run-spec =
     same-length
     returns
     same-length-2
-    returns-2)
+    returns-2
+    same-length-3
+    returns-3)

@@ -1,10 +1,10 @@
--- `replay::replay`: the numbers that are left; only the lengths of the buffers are kept.
+-- `replay::sample::replay`: the numbers that are left; only the lengths of the buffers are kept.
 use Prim.Native.Nat.{_-_}
 use borrow.Author.Needs.{needs}
 use lib.ListN.{length}
 use mathlib.Core.Path.{_≡_}
-use Rattle.replay.proofs.replay.Statement.{statement}
-use Rattle.replay.proofs.replay.Tie as tie
+use Rattle.replay.proofs.sample.replay.Statement.{statement}
+use Rattle.replay.proofs.sample.replay.Tie as tie
 
 abbrev Inv-loop : tie.InvT-loop
 Inv-loop script₀ want₀ got₀ r₀ number₀ script want got r number = (length script ≡ length script₀) × (length want ≡ length want₀) × (length got ≡ length got₀)

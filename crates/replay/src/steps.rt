@@ -1,6 +1,5 @@
-// Runs the steps that stand on standard input, in records of eight bytes, and prints a sum of the replies: the measured side of
-// `bench/run`. The first record is the start. Nothing is read or written between the steps of a
-// buffer, which are 8,192.
+// Runs the steps that stand on standard input, in records of eight bytes, and prints a sum of the replies: our side of `bench/run`. The
+// first record is the start. Nothing is read or written between the steps of a buffer, which are 8,192.
 ghost use Prim.Native.Nat.{_<_, _≤_};
 ghost use lib.ListN.{length};
 use fresh::Started;
@@ -173,7 +172,8 @@ fn read_and_run(ran: Ran) -> Ran {
     ran
 }
 
-fn main() {
+// Runs them all, and prints the sum.
+pub fn run_all() {
     let mut ran = begun();
     let mut left = BUFFERS;
     while 0 < left {

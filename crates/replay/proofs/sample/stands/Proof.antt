@@ -1,8 +1,8 @@
--- `replay::stands`: what is left of the bytes.
+-- `replay::sample::stands`: what is left of the bytes.
 use Prim.Native.Nat.{_-_}
 use borrow.Author.Needs.{needs}
-use Rattle.replay.proofs.stands.Statement.{statement}
-use Rattle.replay.proofs.stands.Tie as tie
+use Rattle.replay.proofs.sample.stands.Statement.{statement}
+use Rattle.replay.proofs.sample.stands.Tie as tie
 
 abbrev Inv-loop : tie.InvT-loop
 Inv-loop buf n text from i₀ i = Unit {0}

@@ -1,9 +1,9 @@
--- `replay::block_end`: what is left of the text.
+-- `replay::sample::block_end`: what is left of the text.
 use Prim.Native.Nat.{_-_}
 use borrow.Author.Needs.{needs}
 use lib.ListN.{length}
-use Rattle.replay.proofs.block_end.Statement.{statement}
-use Rattle.replay.proofs.block_end.Tie as tie
+use Rattle.replay.proofs.sample.block_end.Statement.{statement}
+use Rattle.replay.proofs.sample.block_end.Tie as tie
 
 abbrev Inv-loop : tie.InvT-loop
 Inv-loop text from i₀ i = Unit {0}
