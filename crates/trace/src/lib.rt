@@ -1,5 +1,4 @@
 // A script run: from its bytes to the bytes that are printed for it.
-ghost use mathlib.Core.Path.{_≡_};
 ghost use mathlib.Core.List.{_++_};
 ghost use mathlib.Core.Option.{none, some};
 ghost use Prim.Native.Nat.{_+_, _*_, _-_, _≤_, _<_};
