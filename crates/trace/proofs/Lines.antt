@@ -35,7 +35,7 @@ use Rattle.trace.specs.declared.Turn.{Turn}
 use Rattle.trace.specs.Running.{Turned, firstOf}
 
 -- the line of an outcome, from what was printed
-pub outcome-printed : (o : Outcome) (c : Counts) (old new : List ℕ) (n e : ℕ) → ShownBy c (o .state) → Printed 180 old n (lineText (o .answer) c (o .grants)) new e → Printed 180 old n (outcomeText o) new e
+outcome-printed : (o : Outcome) (c : Counts) (old new : List ℕ) (n e : ℕ) → ShownBy c (o .state) → Printed 180 old n (lineText (o .answer) c (o .grants)) new e → Printed 180 old n (outcomeText o) new e
 outcome-printed o c old new n e h p = rw (outcome-line o c h) at p
 
 pub step-printed : (r : Stepped) (c : Counts) (old new : List ℕ) (n e : ℕ) → ShownBy c (view (r .state)) → Printed 180 old n (lineText (answerOf (r .reply)) c (grantsOf (r .grants))) new e → Printed 180 old n (outcomeText (outcomeOf r)) new e
@@ -45,7 +45,7 @@ pub first-printed : (s : BatchSemaphore) (c : Counts) (g : Grants) (old new : Li
 first-printed s c g old new n e h k p = outcome-printed (quiet done (view s)) c old new n e h (rw (k .view) at p)
 
 -- a step taken
-pub fit-after : (s : BatchSemaphore) (a : Step) (r : Stepped) → Fit s → Steps s a r → Fit (r .state)
+fit-after : (s : BatchSemaphore) (a : Step) (r : Stepped) → Fit s → Steps s a r → Fit (r .state)
 fit-after s a r f h =
     let u = fit-unbroken s f in
     let o = step-carried s a r u h in

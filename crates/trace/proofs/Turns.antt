@@ -48,7 +48,7 @@ module _ (script old new : List ℕ) (at n k next : ℕ) (s : BatchSemaphore) (o
       let l = appended-length w (omega (arith, q .printed .short)) in
       omega (arith, w .end, q .printed .short, l, q .onto)
 
-  pub turned-on : (l : Line) → o ≡ said stepOf l → lines (drop at script) ≡ l ∷ lines (drop next script) → n + k + 45 * (length script - next) ≤ length old → at < next → next ≤ length script
+  turned-on : (l : Line) → o ≡ said stepOf l → lines (drop at script) ≡ l ∷ lines (drop next script) → n + k + 45 * (length script - next) ≤ length old → at < next → next ≤ length script
       → Turned k o s old n next new t → Onward script at s old n new t
   turned-on l e shows h a b q =
       record {

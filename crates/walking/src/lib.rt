@@ -40,26 +40,35 @@ struct Shown {
     pub refused: usize,
 }
 
-// Which questions about points a step has.
-enum Questions {
-    None,
-    One(Question),
-    Two(Question, Question),
+// How many questions about points a step has: none where document 01 has no question; a drop has two.
+fn questions(act: Act) -> u8 {
+    match act {
+        Act::Poll(_) => 1,
+        Act::Try(_) => 1,
+        Act::TryUpgrade { held: _, wanted: _ } => 1,
+        Act::Release(_) => 1,
+        Act::Drop(_) => 2,
+        Act::Close => 1,
+        _ => 0,
+    }
 }
 
-// None is asked where document 01 has no question; a drop has two.
-fn asked(act: Act) -> Questions {
+// The first of them; a close's where there is none.
+fn question(act: Act) -> Question {
     match act {
-        Act::Poll(x) => Questions::One(Question::BeforePoll(x)),
-        Act::Try(_) => Questions::One(Question::BeforeTry),
-        Act::TryUpgrade { held, wanted } => Questions::One(Question::BeforeTryUpgrade {
-            held,
-            wanted,
-        }),
-        Act::Release(_) => Questions::One(Question::BeforeRelease),
-        Act::Drop(x) => Questions::Two(Question::BeforeDrop(x), Question::BeforeDropAgain(x)),
-        Act::Close => Questions::One(Question::BeforeClose),
-        _ => Questions::None,
+        Act::Poll(x) => Question::BeforePoll(x),
+        Act::Try(_) => Question::BeforeTry,
+        Act::TryUpgrade { held, wanted } => Question::BeforeTryUpgrade { held, wanted },
+        Act::Release(_) => Question::BeforeRelease,
+        Act::Drop(x) => Question::BeforeDrop(x),
+        _ => Question::BeforeClose,
+    }
+}
+
+fn second_question(act: Act) -> Question {
+    match act {
+        Act::Drop(x) => Question::BeforeDropAgain(x),
+        _ => Question::BeforeClose,
     }
 }
 
@@ -81,24 +90,21 @@ fn no_points() -> Points {
     }
 }
 
-fn points_told(s: BatchSemaphore, me: TaskId, asked: Questions) -> Points {
-    match asked {
-        Questions::None => no_points(),
-        Questions::One(q) => Points {
-            first: point(s, me, q),
-            second: 0,
-        },
-        Questions::Two(q, r) => Points {
-            first: point(s, me, q),
-            second: point(s, me, r),
-        },
-    }
+// What stands for question i of n.
+fn said(i: u8, n: u8, answer: u8, none: u8) -> u8 {
+    if i < n { answer } else { none }
 }
 
 // The points before a step of a state.
 fn points_of(s: BatchSemaphore, a: Step) -> Points {
     let act = a.act;
-    points_told(s, a.actor, asked(act))
+    let n = questions(act);
+    let first = point(s, a.actor, question(act));
+    let second = point(s, a.actor, second_question(act));
+    Points {
+        first: said(0, n, first, b'-'),
+        second: said(1, n, second, 0),
+    }
 }
 
 fn is_refused(reply: Reply) -> bool {
@@ -152,16 +158,17 @@ fn is_line(h: Heading) -> bool {
     }
 }
 
-fn started(heading: Heading, s: BatchSemaphore) -> Shown {
+// A line that is no step.
+fn quiet(heading: Heading, s: BatchSemaphore, on: bool) -> Shown {
     let out = outcomes::quiet(Reply::Done, s);
     let points = no_points();
-    let fine = is_line(heading);
+    let whole = is_line(heading);
     Shown {
         heading,
-        whole: fine,
+        whole,
         out,
         points,
-        on: fine,
+        on,
         steps: 0,
         refused: 0,
     }
@@ -327,7 +334,8 @@ fn begun_by(line: &[u8], clocks: bool) -> Begun {
 fn opened(b: Begun) -> Shown {
     let clocks = b.clocks;
     let r = start_on(b.start, &clocks, b.n);
-    started(start_heading(b.fine, r.refused), r.state)
+    let heading = start_heading(b.fine, r.refused);
+    quiet(heading, r.state, is_line(heading))
 }
 
 // Where a walk is: the place in the script, the place in the buffer after what was written, whether the next line is the first and may
@@ -435,15 +443,9 @@ fn todo_at(script: &[u8], at: usize, first: bool) -> Todo {
     }
 }
 
-fn with_word(heading: Heading, s: BatchSemaphore, on: bool) -> Shown {
-    let mut out = started(heading, s);
-    out.on = on;
-    out
-}
-
 fn done(s: BatchSemaphore, todo: Todo, line: &[u8], clocks: bool) -> Shown {
     match todo {
-        Todo::Word(heading, on) => with_word(heading, s, on),
+        Todo::Word(heading, on) => quiet(heading, s, on),
         Todo::Take(a) => taken(s, a),
         Todo::Open => opened(begun_by(line, clocks)),
     }
