@@ -1,7 +1,9 @@
 // Runs the recorded scripts, NNN.script, and holds the whole state after each line to what the Rust did, NNN.state. A script whose first
 // line has starting clocks is NNN.clocks.
+ghost use Prim.Native.Nat.{_<_};
 use libc::STDOUT_FILENO;
 use showing::part;
+use walking::Place;
 use walking::Walk;
 use walking::sum;
 
@@ -13,12 +15,13 @@ struct Tally {
     pub differences: usize,
 }
 
-// A script on its way: the walk, the line that comes next, where the recorded text goes on, and whether all was the same so far.
+// A script on its way, but for the walk itself: the line that comes next, where the recorded text goes on, whether all was the same so far,
+// and whether to go on.
 struct Progress {
-    pub walk: Walk,
     pub line: usize,
     pub from: usize,
     pub same: bool,
+    pub on: bool,
 }
 
 fn byte_at(s: &[u8], i: usize) -> u8 {
@@ -78,72 +81,83 @@ fn tell(number: u32, line: usize, want: &[u8], from: usize, got: &[u8], end: usi
     write_part(got, 0, end);
 }
 
-fn begun(clocks: bool) -> Progress {
-    let walk = walking::begin(0, clocks);
-    Progress {
-        walk,
-        line: 1,
-        from: 0,
-        same: true,
-    }
-}
-
-// The next line of a script; its text stands at the start of a buffer.
-fn next(got: &mut [u8], script: &[u8], r: Progress) -> Progress {
-    let mut walk = r.walk;
-    walk.place.end = 0;
-    let after = walking::walk_on(got, script, walk);
-    Progress {
-        walk: after,
-        line: r.line,
-        from: r.from,
-        same: true,
-    }
+// The text for the next line of a script, which stands at the start of a buffer.
+fn next(got: &mut [u8], script: &[u8], walk: Walk) -> Walk {
+    let mut out = walk;
+    out.place.end = 0;
+    walking::walk_on(got, script, out)
 }
 
 // A line's text held to the recorded text from where it goes on. At the end of a script nothing may be left of it.
-fn held(got: &[u8], want: &[u8], r: Progress) -> Progress {
-    let mut out = r;
-    let end = out.walk.place.end;
-    let same = stands(got, end, want, out.from);
-    out.same = same;
-    if same {
-        out.from = sum(r.from, end);
-        out.line = sum(r.line, 1);
-        if !r.walk.place.on {
-            out.same = out.from == want.len();
-        }
+fn held(got: &[u8], want: &[u8], p: Progress, place: Place) -> Progress {
+    let end = place.end;
+    if !stands(got, end, want, p.from) {
+        return differs(p);
     }
+    let from = sum(p.from, end);
+    Progress {
+        line: sum(p.line, 1),
+        from,
+        same: is_right_end(place.on, from, want.len()),
+        on: place.on,
+    }
+}
+
+fn differs(p: Progress) -> Progress {
+    let mut out = p;
+    out.same = false;
+    out.on = false;
     out
 }
 
-fn turn(got: &mut [u8], script: &[u8], want: &[u8], r: Progress) -> Progress {
-    let after = next(got, script, r);
-    held(got, want, after)
+fn is_right_end(on: bool, from: usize, length: usize) -> bool {
+    if on {
+        return true;
+    }
+    from == length
+}
+
+// The turns that are left: none where the walk is over.
+fn fewer(turns: u32, on: bool) -> u32
+    requires { ⌜ 0 < turns ⌝ }
+    ensures { λ r. ⌜ r < turns ⌝ }
+{
+    if on {
+        return turns - 1;
+    }
+    0
+}
+
+// What a script came to, and where its walk ended.
+struct Outcome {
+    pub progress: Progress,
+    pub place: Place,
 }
 
 // Runs a script as long as all is the same. No script has more lines than the turns.
-fn run_script(got: &mut [u8], script: &[u8], want: &[u8], clocks: bool) -> Progress {
-    let mut r = begun(clocks);
+fn run_script(got: &mut [u8], script: &[u8], want: &[u8], clocks: bool) -> Outcome {
+    let mut walk = walking::begin(0, clocks);
+    let mut progress = Progress {
+        line: 1,
+        from: 0,
+        same: true,
+        on: true,
+    };
     let mut turns: u32 = 65540;
     while 0 < turns {
-        r = turn(got, script, want, r);
-        turns -= 1;
-        if !r.same {
-            break;
-        }
-        if !r.walk.place.on {
-            break;
-        }
+        walk = next(got, script, walk);
+        progress = held(got, want, progress, walk.place);
+        turns = fewer(turns, progress.on);
     }
-    r
+    let place = walk.place;
+    Outcome { progress, place }
 }
 
-fn counted(t: Tally, r: Progress) -> Tally {
+fn counted(t: Tally, place: Place) -> Tally {
     Tally {
         scripts: sum(t.scripts, 1),
-        steps: sum(t.steps, r.walk.place.steps),
-        refused: sum(t.refused, r.walk.place.refused),
+        steps: sum(t.steps, place.steps),
+        refused: sum(t.refused, place.refused),
         differences: t.differences,
     }
 }
@@ -165,12 +179,19 @@ fn compare(
     t: Tally,
 ) -> Tally {
     let r = run_script(got, script, want, clocks);
-    let mut out = counted(t, r);
-    if r.same {
+    let mut out = counted(t, r.place);
+    if r.progress.same {
         return out;
     }
     if t.differences == 0 {
-        tell(number, r.line, want, r.from, got, r.walk.place.end);
+        tell(
+            number,
+            r.progress.line,
+            want,
+            r.progress.from,
+            got,
+            r.place.end,
+        );
     }
     out.differences = sum(t.differences, 1);
     out

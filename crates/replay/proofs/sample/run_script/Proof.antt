@@ -6,22 +6,25 @@ use Rattle.replay.proofs.sample.run_script.Statement.{statement}
 use Rattle.replay.proofs.sample.run_script.Tie as tie
 
 abbrev Inv-loop : tie.InvT-loop
-Inv-loop got₀ script want clocks r₀ turns₀ got r turns = length got ≡ length got₀
+Inv-loop got₀ script want clocks walk₀ progress₀ turns₀ got walk progress turns = length got ≡ length got₀
 
 abbrev μ-loop : tie.MeasureT-loop
-μ-loop got₀ script want clocks r₀ turns₀ got r turns = turns
+μ-loop got₀ script want clocks walk₀ progress₀ turns₀ got walk progress turns = turns
 
-begun-requires : tie.Need-begun-requires Inv-loop μ-loop
-begun-requires c κs = search needs
+begin-requires : tie.Need-begin-requires Inv-loop μ-loop
+begin-requires c κs = search needs
 
 loop-holds : tie.Need-loop-holds Inv-loop μ-loop
 loop-holds c = search needs
 
-turn-requires : tie.Need-turn-requires Inv-loop μ-loop
-turn-requires c κs = search needs
+next-requires : tie.Need-next-requires Inv-loop μ-loop
+next-requires c κs = search needs
 
-sub-turns : tie.Need-sub-turns Inv-loop μ-loop
-sub-turns c = search needs
+held-requires : tie.Need-held-requires Inv-loop μ-loop
+held-requires c κs = search needs
+
+fewer-requires : tie.Need-fewer-requires Inv-loop μ-loop
+fewer-requires c κs = search needs
 
 loop-less : tie.Need-loop-less Inv-loop μ-loop
 loop-less c = search needs
@@ -35,33 +38,18 @@ same-length c = search needs
 returns : tie.Need-returns Inv-loop μ-loop
 returns c = search needs
 
-same-length-2 : tie.Need-same-length-2 Inv-loop μ-loop
-same-length-2 c = search needs
-
-returns-2 : tie.Need-returns-2 Inv-loop μ-loop
-returns-2 c = search needs
-
-same-length-3 : tie.Need-same-length-3 Inv-loop μ-loop
-same-length-3 c = search needs
-
-returns-3 : tie.Need-returns-3 Inv-loop μ-loop
-returns-3 c = search needs
-
 pub run-script-spec : {M : Type 1} → statement M
 run-script-spec =
     tie.close
     (tie.spec
     Inv-loop
     μ-loop
-    begun-requires
+    begin-requires
     loop-holds
-    turn-requires
-    sub-turns
+    next-requires
+    held-requires
+    fewer-requires
     loop-less
     loop-again
     same-length
-    returns
-    same-length-2
-    returns-2
-    same-length-3
-    returns-3)
+    returns)
