@@ -1,9 +1,10 @@
 // Runs that no short script reaches; then each script that the arguments name, comparing what it prints with the text that stands in the
-// file behind it.
+// file behind it. With the one argument `steps`: steps for the measurement of speed.
 ghost use Prim.Native.Nat.{_≤_};
 ghost use Rattle.io.specs.Counts.{Counts};
 use libc::STDOUT_FILENO;
 
+mod steps;
 mod trials;
 
 // The most that a script has here, and what it can print.
@@ -70,12 +71,21 @@ fn count() -> usize
     if n < 1000 { n } else { 1000 }
 }
 
-fn main() {
+fn tell_all() {
     trials::tell();
     let n = count();
     let mut i: usize = 1;
     while i + 1 < n {
         compare(i, i + 1);
         i += 2;
+    }
+}
+
+// One argument alone asks for steps.
+fn main() {
+    if os::arg_count() == 2 {
+        steps::run_all();
+    } else {
+        tell_all();
     }
 }

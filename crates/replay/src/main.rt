@@ -1,8 +1,7 @@
-// Our side of every comparison with the Rust, in one program. With no argument it replays the recorded scripts, which stand beside it;
-// `one` prints the whole state after each line of a script, `many` of many scripts; `steps` runs steps for the measurement of speed.
+// Our side of the comparison with the Rust. With no argument it replays the recorded scripts, which stand beside it;
+// `one` prints the whole state after each line of a script, `many` of many scripts.
 mod sample;
 mod states;
-mod steps;
 
 // The first letter of the first argument; 0 where there is none.
 fn word() -> u8 {
@@ -18,7 +17,6 @@ fn main() {
     match word() {
         b'o' => states::run_one(),
         b'm' => states::run_many(),
-        b's' => steps::run_all(),
         _ => sample::run(),
     }
 }

@@ -1,12 +1,12 @@
 use borrow.Author.Needs.{needs}
 use native.Mathlib.Omega.{arith}
 use Prim.Native.Nat.{_-_}
-use Rattle.replay.proofs.steps.run.Statement.{statement}
-use Rattle.replay.proofs.steps.run.Tie as tie
-use Rattle.replay.proofs.steps.run.Reads as reads
-use Rattle.replay.proofs.steps.run.Lts as lts
-use Rattle.replay.proofs.steps.step_at.Reads as step-at-reads
-use Rattle.replay.proofs.steps.weight.Reads as weight-reads
+use Rattle.examples.proofs.steps.run.Statement.{statement}
+use Rattle.examples.proofs.steps.run.Tie as tie
+use Rattle.examples.proofs.steps.run.Reads as reads
+use Rattle.examples.proofs.steps.run.Lts as lts
+use Rattle.examples.proofs.steps.step_at.Reads as step-at-reads
+use Rattle.examples.proofs.steps.weight.Reads as weight-reads
 use Rattle.semaphore.proofs.step.Reads as step-reads
 use Rattle.std.proofs.num.wrapping_add_u64.Reads as wrapping-add-u64-reads
 

@@ -1,11 +1,11 @@
 use borrow.Author.Needs.{needs}
 use native.Mathlib.Omega.{arith}
-use Rattle.replay.proofs.steps.run_all.Statement.{statement}
-use Rattle.replay.proofs.steps.run_all.Tie as tie
-use Rattle.replay.proofs.steps.run_all.Reads as reads
-use Rattle.replay.proofs.steps.run_all.Lts as lts
-use Rattle.replay.proofs.steps.begun.Reads as begun-reads
-use Rattle.replay.proofs.steps.read_and_run.Reads as read-and-run-reads
+use Rattle.examples.proofs.steps.run_all.Statement.{statement}
+use Rattle.examples.proofs.steps.run_all.Tie as tie
+use Rattle.examples.proofs.steps.run_all.Reads as reads
+use Rattle.examples.proofs.steps.run_all.Lts as lts
+use Rattle.examples.proofs.steps.begun.Reads as begun-reads
+use Rattle.examples.proofs.steps.read_and_run.Reads as read-and-run-reads
 use Rattle.io.proofs.print_decimal.Reads as print-decimal-reads
 
 abbrev Inv-loop : tie.InvT-loop
