@@ -8,8 +8,6 @@ use Rattle.queueing.proofs.Stored.{granted}
 use borrow.Author.Needs.{needs}
 use Rattle.queueing.proofs.grant.Statement.{statement}
 use Rattle.queueing.proofs.grant.Tie as tie
-use Rattle.request.proofs.Requests.get.Reads as Requests-get-reads
-use Rattle.task.proofs.Tasks.get.Reads as Tasks-get-reads
 
 get-requires : tie.Need-get-requires
 get-requires c κs = search needs

@@ -6,8 +6,6 @@ use Rattle.waiters.specs.View.{slot0}
 use Rattle.waiters.proofs.Shifting.{Backing, back-start, back-step, back-done}
 use Rattle.waiters.proofs.shifted_back.Statement.{statement}
 use Rattle.waiters.proofs.shifted_back.Tie as tie
-use Rattle.waiters.proofs.shifted_back.Reads as reads
-use Rattle.waiters.proofs.shifted_back.Lts as lts
 
 abbrev Inv-loop : tie.InvT-loop
 Inv-loop len a₀ j₀ a j = (length a₀ ≡ 32) × Backing slot0 a₀ len a j
@@ -15,33 +13,26 @@ Inv-loop len a₀ j₀ a j = (length a₀ ≡ 32) × Backing slot0 a₀ len a j
 abbrev μ-loop : tie.MeasureT-loop
 μ-loop len a₀ j₀ a j = j
 
--- src/lib.rt:139:5
 loop-holds : tie.Need-loop-holds Inv-loop μ-loop
 loop-holds c =
     let n : length (c .args .q) ≡ 32 = search needs in
     (n, back-start slot0 (c .args .q) (c .args .len) (omega arith))
 
--- src/lib.rt:140:19
 sub-x : tie.Need-sub-x Inv-loop μ-loop
 sub-x c = omega arith
 
--- src/lib.rt:140:17
 array-copy-out-x : tie.Need-array-copy-out-x Inv-loop μ-loop
 array-copy-out-x c = omega arith
 
--- src/lib.rt:141:9
 array-set-from-a : tie.Need-array-set-from-a Inv-loop μ-loop
 array-set-from-a c = omega arith
 
--- src/lib.rt:142:9
 sub-j : tie.Need-sub-j Inv-loop μ-loop
 sub-j c = omega arith
 
--- src/lib.rt:139:5
 loop-less : tie.Need-loop-less Inv-loop μ-loop
 loop-less c = omega arith
 
--- src/lib.rt:139:5
 loop-again : tie.Need-loop-again Inv-loop μ-loop
 loop-again c =
     let b = c .before .before in
@@ -49,7 +40,6 @@ loop-again c =
     let v = b .loop .inv in
     (v .0, back-step slot0 (a .q) (a .len) (omega arith) (b .loop .a) (b .loop .j) (v .1) (c .before .loop-test .taken))
 
--- src/lib.rt:133:1
 returns : tie.Need-returns Inv-loop μ-loop
 returns c =
     let b = c .before in

@@ -6,8 +6,6 @@ use lib.ListN.{length}
 use Rattle.waiters.proofs.Shifting.{Shifting, shift-start, shift-step, shift-done}
 use Rattle.waiters.proofs.shifted_front.Statement.{statement}
 use Rattle.waiters.proofs.shifted_front.Tie as tie
-use Rattle.waiters.proofs.shifted_front.Reads as reads
-use Rattle.waiters.proofs.shifted_front.Lts as lts
 
 abbrev Inv-loop : tie.InvT-loop
 Inv-loop i len a₀ j₀ a j = (length a₀ ≡ 32) × Shifting a₀ i len a j
@@ -15,44 +13,35 @@ Inv-loop i len a₀ j₀ a j = (length a₀ ≡ 32) × Shifting a₀ i len a j
 abbrev μ-loop : tie.MeasureT-loop
 μ-loop i len a₀ j₀ a j = len - j
 
--- src/lib.rt:87:5
 loop-holds : tie.Need-loop-holds Inv-loop μ-loop
 loop-holds c =
     let n : length (c .args .q) ≡ 32 = search needs in
     (n, shift-start (c .args .q) (c .args .i) (c .args .len) (omega arith) (c .pre .0))
 
--- src/lib.rt:87:11
 add-loop : tie.Need-add-loop Inv-loop μ-loop
 add-loop c = omega arith
 
--- src/lib.rt:88:22
 add-next : tie.Need-add-next Inv-loop μ-loop
 add-next c = omega arith
 
--- src/lib.rt:88:20
 array-copy-out-next : tie.Need-array-copy-out-next Inv-loop μ-loop
 array-copy-out-next c = omega arith
 
--- src/lib.rt:89:9
 array-set-from-a : tie.Need-array-set-from-a Inv-loop μ-loop
 array-set-from-a c = omega arith
 
--- src/lib.rt:90:9
 add-j : tie.Need-add-j Inv-loop μ-loop
 add-j c = omega arith
 
--- src/lib.rt:87:5
 loop-less : tie.Need-loop-less Inv-loop μ-loop
 loop-less c = omega arith
 
--- src/lib.rt:87:5
 loop-again : tie.Need-loop-again Inv-loop μ-loop
 loop-again c =
     let a = c .before .before .before .args in
     let v = c .before .before .loop .inv in
     (v .0, shift-step (a .q) (a .i) (a .len) (omega arith) (c .before .before .loop .a) (c .before .before .loop .j) _ (v .1) (c .before .loop-test .taken))
 
--- src/lib.rt:80:1
 returns : tie.Need-returns Inv-loop μ-loop
 returns c =
     let a = c .before .before .args in
