@@ -7,7 +7,7 @@ use mathlib.Core.List.{[], _∷_}
 use lib.ListN.{length, getD, set}
 use Rattle.rules.specs.Clock.{Clock, join}
 use Rattle.rules.proofs.Clocks.{length-join}
-use Rattle.clock.proofs.Filling.{filled, fills-more, fills-whole}
+use Rattle.tables.proofs.Filling.{filled, fills-more, fills-whole}
 
 pub getD-join : (c d : Clock) (i : ℕ) → i < length c → getD (join c d) i 0 ≡ max (getD c i 0) (getD d i 0)
 unfolding join

@@ -8,7 +8,7 @@ use mathlib.Core.Path.{_≡_, sym, ap, _∙_}
 use mathlib.Core.List.{List, _++_, append-assoc}
 use lib.ListN.{length, getD, set, take, drop, length-drop, take-append-drop}
 use lib.Seq.{paste, take-at, drop-at, take-all, take-append-le, drop-append-le, drop-drop, paste-suc, drop-paste, length-take-le, getD-take, getD-drop}
-use Rattle.clock.proofs.Filling.{filled, fills-more, fills-whole}
+use Rattle.tables.proofs.Filling.{filled, fills-more, fills-whole}
 use Rattle.permits.specs.View.{row}
 
 -- row p ends where row p + 1 begins

@@ -4,7 +4,7 @@ use mathlib.Core.Path.{_≡_, refl}
 use borrow.Author.Needs.{needs}
 use lib.ListN.{length}
 use Rattle.rules.specs.Sizes.{width}
-use Rattle.clock.proofs.Filling.{filled}
+use Rattle.tables.proofs.Filling.{filled}
 use Rattle.permits.specs.View.{row}
 use Rattle.permits.proofs.Rows.{reads-more, reads-whole}
 use Rattle.permits.proofs.clock_at.Statement.{statement}

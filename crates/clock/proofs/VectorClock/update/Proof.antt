@@ -5,7 +5,7 @@ use borrow.Author.Needs.{needs}
 use lib.ListN.{length}
 use Rattle.rules.specs.Sizes.{width}
 use Rattle.rules.specs.Clock.{join}
-use Rattle.clock.proofs.Filling.{filled}
+use Rattle.tables.proofs.Filling.{filled}
 use Rattle.clock.proofs.Joining.{joins-more, joins-whole}
 use Rattle.clock.proofs.VectorClock.update.Statement.{statement}
 use Rattle.clock.proofs.VectorClock.update.Tie as tie

@@ -1,0 +1,17 @@
+-- The request itself where it is in use; else none.
+use Rattle.records.proofs.Standing.{stands-used, stands-free}
+use borrow.Author.Needs.{needs}
+use Rattle.records.proofs.Request.standing.Statement.{statement}
+use Rattle.records.proofs.Request.standing.Tie as tie
+
+returns : tie.Need-returns
+returns c = stands-used _ (c .if1 .taken)
+
+none-requires : tie.Need-none-requires
+none-requires c κs = search needs
+
+returns-2 : tie.Need-returns-2
+returns-2 c = stands-free _ _ (c .before .if1 .left) (c .none .ensures)
+
+pub standing-spec : {M : Type 1} → statement M
+standing-spec = tie.close (tie.spec returns none-requires returns-2)
