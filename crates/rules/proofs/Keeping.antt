@@ -16,7 +16,7 @@ use Rattle.rules.specs.Request.{Request, noRequest}
 use Rattle.rules.specs.State.{Permits, State, isStrict, isSome, sameSlot, requestAt, withPermits, withReservation, withTasks, alterTask}
 use Rattle.rules.specs.Waking.{clearFinished, wakeUnfair}
 use Rattle.rules.specs.Broken.{member, twice}
-use Rattle.rules.specs.Sound.{Waits, Reserves, WellMade, SoundPermits, Sound}
+use Rattle.rules.specs.Sound.{Waits, IsReserved, WellMade, SoundPermits, Sound}
 use Rattle.rules.proofs.Queues.{by-slot, pigeonhole}
 use Rattle.rules.proofs.Slots.{slotAt}
 use Rattle.rules.proofs.Tasks.{Roused, roused-number, roused-keeps, by-cleared, rouse-unfair}
@@ -26,7 +26,7 @@ use Rattle.rules.proofs.Tasks.{Roused, roused-number, roused-keeps, by-
 pub record SoundAt (s : State) (x : Slot) : Type 0 where
   pub queued : member x (s .queue) ≡ true → Waits s x
   pub marked : requestAt x s .queued ≡ member x (s .queue)
-  pub reserves : s .reservation ≡ some x → Reserves s x
+  pub reserves : s .reservation ≡ some x → IsReserved s x
   pub made : requestAt x s .ask .reserving ≡ true → WellMade s x
 
 pub sound-at : (s : State) → Sound s → (x : Slot) → SoundAt s x

@@ -15,7 +15,7 @@ use Rattle.rules.specs.State.{State, strict, sameSlot, isThe, hasReserva
 use Rattle.rules.specs.Scan.{without, leave}
 use Rattle.rules.specs.Steps.{free}
 use Rattle.rules.specs.Broken.{member, twice}
-use Rattle.rules.specs.Sound.{Waits, Reserves, WellMade, Sound}
+use Rattle.rules.specs.Sound.{Waits, IsReserved, WellMade, Sound}
 use Rattle.rules.proofs.Bools.{by-test, clash}
 use Rattle.rules.proofs.Queues.{same-slot, slot-same, member-behind, member-before, member-middle, once-cons, once-snoc, without-empty, member-without, gone-without, once-without, pigeonhole}
 use Rattle.rules.proofs.Slots.{used-below, slot-set, slot-beside, request-altered, used-altered, altered-beside, field-altered, field-set}
@@ -77,9 +77,9 @@ altered-only x f s h =
     }
 
 -- a slot that has not the reservation is not the one reserved
-unreserved : (x : Slot) (o : Option Slot) → isThe x o ≡ false → o ≡ some x → {X : Type 0} → X
-unreserved x none e r = let z : _≡_ {A = ℕ} 0 1 = cc in absurd (omega arith)
-unreserved x (some y) e r = let z : y ≡ x = cc in clash (slot-same x y (sym z)) e
+not-the-one : (x : Slot) (o : Option Slot) → isThe x o ≡ false → o ≡ some x → {X : Type 0} → X
+not-the-one x none e r = let z : _≡_ {A = ℕ} 0 1 = cc in absurd (omega arith)
+not-the-one x (some y) e r = let z : y ≡ x = cc in clash (slot-same x y (sym z)) e
 
 -- A request that does not wait may hold, complete, and be of any task.
 pub sound-aside : (x : Slot) (f : Request → Request) (s : State)
@@ -90,7 +90,7 @@ sound-aside x f s a q m v h =
     record {
       queued = λ e. clash e m;
       marked = field-altered (λ (r : Request). r .queued) x f s q ∙ h .marked x;
-      reserves = λ e. unreserved x (s .reservation) v e;
+      reserves = λ e. not-the-one x (s .reservation) v e;
       made = made-altered x f s a (h .made x);
     }
     )
@@ -223,7 +223,7 @@ sound-joined x f s q k j h =
     record {
       queued = λ m. waits-altered x f (withQueue q s) (h .slots) (k .used) (k .waits);
       marked = ap (λ (r : Request). r .queued) (request-altered x f s (k .used)) ∙ k .queued (requestAt x s) ∙ sym (j .within);
-      reserves = λ e. unreserved x (s .reservation) (k .unreserved) e;
+      reserves = λ e. not-the-one x (s .reservation) (k .unreserved) e;
       made = λ e.
           let m = made-altered x f s (k .ask) (h .made x) e in
           record { unfair = m .unfair; asks = m .asks; least = m .least };
@@ -338,7 +338,7 @@ module _ (x : Slot) (o : Option Request) (s : State) where
       record {
         queued = λ e. clash e m;
         marked = read (λ r. r .queued) ∙ q ∙ sym m;
-        reserves = λ e. unreserved x (s .reservation) v e;
+        reserves = λ e. not-the-one x (s .reservation) v e;
         made = λ e.
             let k = w (sym (read (λ r. r .ask .reserving)) ∙ e) in
             record {
@@ -364,7 +364,7 @@ has-reservation x s e = go (s .reservation) e
     go none f = absurd (false≢true f)
     go (some y) f = ap (λ (z : Slot). some z) (sym (same-slot x y f))
 
-pub not-reserved : (x : Slot) (s : State) → Sound s → (Reserves s x → ⊥) → hasReservation x s ≡ false
+pub not-reserved : (x : Slot) (s : State) → Sound s → (IsReserved s x → ⊥) → hasReservation x s ≡ false
 not-reserved x s h k = by-test (hasReservation x s) (λ e. absurd (k (h .reserves x (has-reservation x s e)))) (λ e. e)
 
 pub not-queued : (x : Slot) (s : State) → Sound s → (Waits s x → ⊥) → member x (s .queue) ≡ false

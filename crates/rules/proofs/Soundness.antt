@@ -15,7 +15,7 @@ use Rattle.rules.specs.Request.{Request}
 use Rattle.rules.specs.State.{Batch, State, strict, stock, isSome, reserved, inUse, requestAt, askedAt, leastAt, taskOf}
 use Rattle.rules.specs.Refusals.{badReserving}
 use Rattle.rules.specs.Broken.{anyOf, member, twice, everySlot, reservedSlots, standingBatches, total, isBeyond, isFree, isMisMarked, cannotReserve, isMisMade, asksNothing, cannotWait, isEmptyBatch, differs, nonEmpty, broken}
-use Rattle.rules.specs.Sound.{Waits, Reserves, WellMade, SoundPermits, Sound}
+use Rattle.rules.specs.Sound.{Waits, IsReserved, WellMade, SoundPermits, Sound}
 use Rattle.rules.proofs.Bools.{by-test, clash, neither, _nor_, not-both, and-other, is-not-not, beq-same, same-beq, positive, not-zero}
 use Rattle.rules.proofs.Slots.{free-request, past-unused, used-below}
 use Rattle.rules.proofs.Queues.{none-of, no-member, member-fails, slot-fails, no-slot}
@@ -119,7 +119,7 @@ module _ (s : State) (n : length (s .slots) ≡ slotCount) (c : Clauses s) where
   reserved-one : (p : Slot → Bool) (x : Slot) → anyOf p (reservedSlots (s .reservation)) ≡ false → s .reservation ≡ some x → p x ≡ false
   reserved-one p x f e = none-of p x [] (subst (λ (o : Option Slot). anyOf p (reservedSlots o) ≡ false) e f) .0
 
-  reserves : (x : Slot) → s .reservation ≡ some x → Reserves s x
+  reserves : (x : Slot) → s .reservation ≡ some x → IsReserved s x
   reserves x e =
       let k = neither _ _ (reserved-one (cannotReserve s) x (c .reserves) e) in
       let u = neither (not (inUse x s)) (requestAt x s .queued) (k .0) in
@@ -141,10 +141,10 @@ module _ (s : State) (n : length (s .slots) ≡ slotCount) (c : Clauses s) where
       ap (λ (r : Request). r .queued) (free-request x s u)
       ∙ by-test (member x (s .queue)) (λ m. clash (queued x m .used) u) (λ m. sym m))
 
-  empty : (q : List Slot) (o : Option Slot) → (nonEmpty q || isSome o) ≡ false → (q ≡ []) × (o ≡ none)
-  empty [] none e = (refl, refl)
-  empty [] (some x) e = absurd (true≢false e)
-  empty (y ∷ q) o e = absurd (true≢false e)
+  both-empty : (q : List Slot) (o : Option Slot) → (nonEmpty q || isSome o) ≡ false → (q ≡ []) × (o ≡ none)
+  both-empty [] none e = (refl, refl)
+  both-empty [] (some x) e = absurd (true≢false e)
+  both-empty (y ∷ q) o e = absurd (true≢false e)
 
   permits : SoundPermits (s .permits)
   permits bs e =
@@ -166,7 +166,7 @@ module _ (s : State) (n : length (s .slots) ≡ slotCount) (c : Clauses s) where
         marked = marked;
         reserves = reserves;
         made = made;
-        closed = λ e. empty (s .queue) (s .reservation) (and-other (s .closed) _ (c .closed) e);
+        closed = λ e. both-empty (s .queue) (s .reservation) (and-other (s .closed) _ (c .closed) e);
         permits = permits;
       }
 
@@ -176,7 +176,7 @@ unbroken-sound s n e = clauses-sound s n (clauses s e)
 -- And back.
 
 module _ (s : State) (h : Sound s) where
-  fails-reserved : (p : Slot → Bool) → ((x : Slot) → Reserves s x → p x ≡ false)
+  fails-reserved : (p : Slot → Bool) → ((x : Slot) → IsReserved s x → p x ≡ false)
       → (o : Option Slot) → s .reservation ≡ o → anyOf p (reservedSlots o) ≡ false
   unfolding anyOf
   fails-reserved p f none e = refl
@@ -188,8 +188,8 @@ module _ (s : State) (h : Sound s) where
   in-range : (x : Slot) → Waits s x → isBeyond x ≡ false
   in-range x w = lt-leb slotCount (x .0) (w .below)
 
-  can-wait : (x : Slot) → Waits s x → cannotWait s x ≡ false
-  can-wait x w = w .holding nor w .completed nor lt-leb (length (s .tasks)) (taskOf x s .0) (w .task)
+  may-wait : (x : Slot) → Waits s x → cannotWait s x ≡ false
+  may-wait x w = w .holding nor w .completed nor lt-leb (length (s .tasks)) (taskOf x s .0) (w .task)
 
   well-made : (x : Slot) → isMisMade s x ≡ false
   well-made x =
@@ -201,17 +201,17 @@ module _ (s : State) (h : Sound s) where
       not-both (s .closed) _
       (λ e. let k = h .closed e in ap (λ (q : List Slot). nonEmpty q) (k .0) nor ap (λ (o : Option Slot). isSome o) (k .1))
 
-  batches-fit : (o : Option (List Batch)) → s .permits .batches ≡ o
+  batches-add-up : (o : Option (List Batch)) → s .permits .batches ≡ o
       → (ltb batchCount (length (standingBatches o)) ≡ false) × (anyOf isEmptyBatch (standingBatches o) ≡ false) × (differs (stock s) o ≡ false)
   unfolding anyOf
-  batches-fit none e = (refl, refl, refl)
-  batches-fit (some bs) e =
+  batches-add-up none e = (refl, refl, refl)
+  batches-add-up (some bs) e =
       let a = h .permits bs e in
       (le-ltb batchCount (length bs) (a .room), a .sizes, is-not-not _ (eq-eqb (total bs) (stock s) (a .sum)))
 
   sound-clauses : Clauses s
   sound-clauses =
-      let b = batches-fit (s .permits .batches) refl in
+      let b = batches-add-up (s .permits .batches) refl in
       record {
         tasks = le-ltb maxTasks (length (s .tasks)) (h .tasks);
         queue = le-ltb slotCount (length (s .queue)) (h .room);
@@ -226,8 +226,8 @@ module _ (s : State) (h : Sound s) where
             (s .reservation) refl;
         made = no-slot (isMisMade s) slotCount 0 well-made;
         asks = fails-queued (asksNothing s) (λ x w. not-zero (askedAt x s) (w .asks));
-        waits = fails-queued (cannotWait s) can-wait;
-        reserved-waits = fails-reserved (cannotWait s) (λ x r. can-wait x (r .waits)) (s .reservation) refl;
+        waits = fails-queued (cannotWait s) may-wait;
+        reserved-waits = fails-reserved (cannotWait s) (λ x r. may-wait x (r .waits)) (s .reservation) refl;
         closed = closed-empty;
         sizes = b .1;
         sum = b .2;

@@ -38,6 +38,7 @@ abbrev pub reservedSlots : Option Slot → List Slot
 reservedSlots none = []
 reservedSlots (some x) = x ∷ []
 
+-- the batches that stand now: none where they are not yet set up (Taking's `standing` is of those that stand once they are)
 abbrev pub standingBatches : Option (List Batch) → List Batch
 standingBatches none = []
 standingBatches (some bs) = bs

@@ -25,7 +25,7 @@ use Rattle.rules.specs.Request.{Request, isBypassable}
 use Rattle.rules.specs.State.{Batch, State, strict, stock, requestAt, askedAt, ownerFinished}
 use Rattle.rules.specs.Fresh.{Start}
 use Rattle.rules.specs.Scan.{leave, verdict, grantQueued, queueGrant}
-use Rattle.rules.specs.Steps.{addReleased, dropping, isFirst, frontBypassable, effectOf}
+use Rattle.rules.specs.Steps.{sortOf, bySort, addReleased, dropping, isFirst, frontBypassable, effectOf}
 use Rattle.rules.specs.Refusals.{refusal}
 use Rattle.rules.specs.Runs.{Said, step}
 use Rattle.rules.specs.Broken.{member, standingBatches}
@@ -49,33 +49,11 @@ grantedIn (a ∷ as′) = counts (a .grants) + grantedIn as′
 
 -- the permits that an accepted step releases: those of a release
 abbrev pub releases : Act → ℕ
-releases (Acquire n) = 0
-releases (AcquireBypassable n) = 0
-releases (AcquireReserving least n) = 0
-releases (Upgrade held wanted) = 0
-releases (Poll x) = 0
-releases (Try n) = 0
-releases (TryUpgrade held wanted) = 0
-releases (Release n) = n
-releases (Drop x) = 0
-releases Close = 0
-releases Sleep = 0
-releases Finish = 0
+releases a = bySort (sortOf a) (λ n. n) (λ x. 0) 0
 
 -- the permits that an accepted step gives up: those of a holder dropped before it completed
 abbrev pub givesUp : Act → State → ℕ
-givesUp (Acquire n) s = 0
-givesUp (AcquireBypassable n) s = 0
-givesUp (AcquireReserving least n) s = 0
-givesUp (Upgrade held wanted) s = 0
-givesUp (Poll x) s = 0
-givesUp (Try n) s = 0
-givesUp (TryUpgrade held wanted) s = 0
-givesUp (Release n) s = 0
-givesUp (Drop x) s = cond (requestAt x s .holding && not (requestAt x s .completed)) (askedAt x s) 0
-givesUp Close s = 0
-givesUp Sleep s = 0
-givesUp Finish s = 0
+givesUp a s = bySort (sortOf a) (λ n. 0) (λ x. cond (requestAt x s .holding && not (requestAt x s .completed)) (askedAt x s) 0) 0
 
 -- what is said of an accepted step, or of a refused one
 abbrev pub ifAccepted {ℓ} : {A : Type ℓ} → Option ℕ → A → A → A
@@ -151,18 +129,7 @@ abbrev pub atOnce : TaskId → Act → State → List Moment
 atOnce t a s = map (λ (g : Grant). record { grant = g; state = s }) (effectOf t a s .grants)
 
 unfoldable pub watchAct : TaskId → Act → State → List Moment
-watchAct t (Acquire n) s = atOnce t (Acquire n) s
-watchAct t (AcquireBypassable n) s = atOnce t (AcquireBypassable n) s
-watchAct t (AcquireReserving least n) s = atOnce t (AcquireReserving least n) s
-watchAct t (Upgrade held wanted) s = atOnce t (Upgrade held wanted) s
-watchAct t (Poll x) s = atOnce t (Poll x) s
-watchAct t (Try n) s = atOnce t (Try n) s
-watchAct t (TryUpgrade held wanted) s = atOnce t (TryUpgrade held wanted) s
-watchAct t (Release n) s = watchRelease t n s
-watchAct t (Drop x) s = watchDrop (dropping x s) t x s
-watchAct t Close s = atOnce t Close s
-watchAct t Sleep s = atOnce t Sleep s
-watchAct t Finish s = atOnce t Finish s
+watchAct t a s = bySort (sortOf a) (λ n. watchRelease t n s) (λ x. watchDrop (dropping x s) t x s) (atOnce t a s)
 
 -- for each step of a run, its grants with the moments when they are made
 unfoldable pub watchRun : List Step → State → List (List Moment)

@@ -19,7 +19,7 @@ pub record Waits (s : State) (x : Slot) : Type 0 where
   pub completed : requestAt x s .completed ≡ false
   pub task : taskOf x s .0 < length (s .tasks)
 
-pub record Reserves (s : State) (x : Slot) : Type 0 where
+pub record IsReserved (s : State) (x : Slot) : Type 0 where
   pub waits : Waits s x
   pub unqueued : requestAt x s .queued ≡ false
   pub reserving : requestAt x s .ask .reserving ≡ true
@@ -45,7 +45,7 @@ pub record Sound (s : State) : Type 0 where
   pub once : twice (s .queue) ≡ false
   pub queued : (x : Slot) → member x (s .queue) ≡ true → Waits s x
   pub marked : (x : Slot) → requestAt x s .queued ≡ member x (s .queue)
-  pub reserves : (x : Slot) → s .reservation ≡ some x → Reserves s x
+  pub reserves : (x : Slot) → s .reservation ≡ some x → IsReserved s x
   pub made : (x : Slot) → requestAt x s .ask .reserving ≡ true → WellMade s x
   pub closed : s .closed ≡ true → (s .queue ≡ []) × (s .reservation ≡ none)
   pub permits : SoundPermits (s .permits)

@@ -39,6 +39,32 @@ infix 70 _does_
 abbrev pub _does_ : TaskId → Act → Step
 t does a = record { actor = t; act = a }
 
+-- A release or a drop may bring permits back, and may scan; no other act does.
+pub data Sort : Type 0 where
+  a-release : ℕ → Sort
+  a-drop : Slot → Sort
+  another : Sort
+
+abbrev pub sortOf : Act → Sort
+sortOf (Acquire n) = another
+sortOf (AcquireBypassable n) = another
+sortOf (AcquireReserving least n) = another
+sortOf (Upgrade held wanted) = another
+sortOf (Poll x) = another
+sortOf (Try n) = another
+sortOf (TryUpgrade held wanted) = another
+sortOf (Release n) = a-release n
+sortOf (Drop x) = a-drop x
+sortOf Close = another
+sortOf Sleep = another
+sortOf Finish = another
+
+-- what is said of a release, of a drop, and of any other act
+abbrev pub bySort {ℓ} : {A : Type ℓ} → Sort → (ℕ → A) → (Slot → A) → A → A
+bySort (a-release n) f g o = f n
+bySort (a-drop x) f g o = g x
+bySort another f g o = o
+
 -- Every accepted step also returns its grants in order.
 pub record Outcome : Type 0 where
   pub answer : Answer
