@@ -9,7 +9,7 @@ use Rattle.rules.specs.State.{Batch, stock}
 use Rattle.rules.specs.Fresh.{Start, fresh}
 use Rattle.rules.specs.Runs.{Said, run}
 use Rattle.rules.specs.Sound.{AddUp}
-use Rattle.rules.specs.Promises.{Each, grantedIn, releasedIn, givenUpIn, NobodyStranded, grantsOf, watchRun, PassesOnlySuch, CountsFit, GrantFits, StartFits, StepFits}
+use Rattle.rules.specs.Promises.{Each, EachPair, grantedIn, releasedIn, givenUpIn, NobodyStranded, grantsOf, watchRun, PassesOnlySuch, CountsFit, GrantFits, StartFits, StepFits}
 use Rattle.state.specs.declared.BatchSemaphore.{BatchSemaphore}
 use Rattle.state.specs.View.{view}
 use Rattle.broken.specs.Broken.{isBroken}
@@ -28,9 +28,10 @@ pub record Promised (a : Start) (s : BatchSemaphore) (cs : List Call) : Type 0 w
   -- 3. Nobody is stranded: on a strictly fair semaphore each queued request up to and including the first that is not Bypassable asks for more
   -- than the stock.
   pub nobody-stranded : a .fairness ≡ StrictlyFair → NobodyStranded (view (left s cs))
-  -- 4. Who is passed over: on a strictly fair semaphore a grant from the queue leaves queued ahead of it, at the moment when it is made, only
-  -- Bypassable requests of unfinished tasks, each asking for more than is then in stock. The grants watched are those that the calls returned.
-  pub passed-over : a .fairness ≡ StrictlyFair → Each (Each PassesOnlySuch) (watchRun (stepsOf cs) (fresh a))
+  -- 4. Who is passed over: on a strictly fair semaphore every grant of a release or a drop is from the queue: its request stands there at the moment
+  -- when it is made, and ahead of it only Bypassable requests of unfinished tasks, each asking for more than is then in stock. Every other grant is
+  -- taken by a try, or by a request that is not in the queue. The grants watched are those that the calls returned.
+  pub passed-over : a .fairness ≡ StrictlyFair → EachPair PassesOnlySuch (stepsOf cs) (watchRun (stepsOf cs) (fresh a))
   pub watched : map grantsOf (watchRun (stepsOf cs) (fresh a)) ≡ map (λ (o : Said). o .grants) (saidBy cs)
   -- 5. Never broken: no call of these meets 14, nor would the next.
   pub never-broken : isBroken (left s cs) ≡ false

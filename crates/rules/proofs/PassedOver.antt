@@ -4,7 +4,7 @@ use Prim.Native.Nat.{ℕ, _-_}
 use native.Mathlib.Omega.{arith}
 use mathlib.Core.Path.{_≡_, refl, sym, ap, subst, _∙_}
 use mathlib.Core.Bool.{Bool, true, false, cond, _&&_, _||_}
-use mathlib.Core.List.{List, [], _∷_, _++_, map, head-eq-of-cons-eq, tail-eq-of-cons-eq}
+use mathlib.Core.List.{List, [], _∷_, _++_, map}
 use mathlib.Core.Option.{Option, none, some}
 use lib.Dec.{eqb}
 use Rattle.rules.specs.declared.TaskId.{TaskId}
@@ -23,18 +23,17 @@ use Rattle.rules.specs.declared.Priority.the-variants.{Back, Front}
 use Rattle.rules.specs.declared.Act.{Act}
 use Rattle.rules.specs.declared.Act.the-variants.{Acquire, AcquireBypassable, AcquireReserving, Upgrade, Poll, Try, TryUpgrade, Release, Drop, Close, Sleep, Finish}
 use Rattle.rules.specs.declared.Step.{Step}
-use Rattle.rules.specs.State.{State, strict, sameSlot, askedAt}
+use Rattle.rules.specs.State.{State, strict, askedAt}
 use Rattle.rules.specs.Taking.{direct}
-use Rattle.rules.specs.Scan.{Granting, leave, verdict, grantQueued, queueGrant, turn, walk, scan}
+use Rattle.rules.specs.Scan.{Granting, leave, verdict, grantQueued, turn, walk, scan}
 use Rattle.rules.specs.Polling.{polling, pollGrants}
-use Rattle.rules.specs.Steps.{make, tryBy, poll, addReleased, release, dropping, isFirst, frontBypassable, dropQueued, dropWork, dropRequest, effectOf}
+use Rattle.rules.specs.Steps.{_does_, make, tryBy, poll, addReleased, release, dropping, isFirst, frontBypassable, dropQueued, dropWork, dropRequest, effectOf}
 use Rattle.rules.specs.Refusals.{returned, refusal}
 use Rattle.rules.specs.Runs.{Said, unless, step, run}
-use Rattle.rules.specs.Broken.{anyOf, member, twice}
+use Rattle.rules.specs.Broken.{member}
 use Rattle.rules.specs.Sound.{Sound}
-use Rattle.rules.specs.Promises.{Each, Moment, grantsOf, Watched, watchTurn, watchWalk, watchScan, watchRelease, watchDrop, watchAct, ifAccepted, watchRun, PassesOnlySuch}
-use Rattle.rules.proofs.Bools.{positive, by-cond, clash, neither, or-left}
-use Rattle.rules.proofs.Queues.{slot-same, member-middle, once-middle}
+use Rattle.rules.specs.Promises.{Each, Moment, grantsOf, Watched, queueMoment, watchTurn, watchWalk, watchScan, watchRelease, watchDrop, watchAct, ifAccepted, watchRun, EachPair, FromQueue, TakenAtOnce, PassesOnlySuch}
+use Rattle.rules.proofs.Bools.{positive, by-cond, clash}
 use Rattle.rules.proofs.Eaches.{each-append}
 use Rattle.rules.proofs.KeepsQueue.{sound-leave}
 use Rattle.rules.proofs.KeepsScan.{Says, verdict-says, Walking, walking, walking-leaves, walking-fits, walking-passed}
@@ -59,7 +58,7 @@ watches-turn : (v : Verdict) (x : Slot) (on : State → List Moment → Watched)
     → Watches (watchTurn v x on s ms) (turn v x go s (grantsOf ms))
 watches-turn Leaves x on go s ms k = k (leave x s) ms
 watches-turn Fits x on go s ms k =
-    let m : List Moment = record { grant = queueGrant x s; state = s } ∷ [] in
+    let m : List Moment = queueMoment x s ∷ [] in
     let b = grantQueued x s in
     subst (λ (gs : List Grant). Watches (on b (ms ++ m)) (go b gs)) (grants-append ms m) (k b (ms ++ m))
 watches-turn Passed x on go s ms k = k s ms
@@ -129,56 +128,43 @@ watches-run (a ∷ as′) s = λ i. watches-step a s i ∷ watches-run as′ (st
 
 -- Who stands ahead.
 
--- a slot that stands once has the same ones ahead, however the list is split
-same-ahead : (p p′ : List Slot) (x : Slot) (q q′ : List Slot) → p ++ x ∷ q ≡ p′ ++ x ∷ q′ → member x p ≡ false → member x p′ ≡ false → p ≡ p′
-unfolding anyOf
-same-ahead [] [] x q q′ e m n = refl
-same-ahead [] (y ∷ p′) x q q′ e m n = clash (or-left _ _ (slot-same x y (head-eq-of-cons-eq e))) n
-same-ahead (y ∷ p) [] x q q′ e m n = clash (or-left _ _ (slot-same x y (sym (head-eq-of-cons-eq e)))) m
-same-ahead (y ∷ p) (z ∷ p′) x q q′ e m n =
-    let k = same-ahead p p′ x q q′ (tail-eq-of-cons-eq e) (neither (sameSlot x y) _ m .1) (neither (sameSlot x z) _ n .1) in
-    λ i. head-eq-of-cons-eq e i ∷ k i
-
 -- at a turn of a scan: those ahead are those that have been passed
-turn-passes : (x : Slot) (q : List Slot) (s : State) → Walking (x ∷ q) s → PassesOnlySuch (record { grant = queueGrant x s; state = s })
-turn-passes x q s w x′ ahead behind e f y m =
-    let same : x ≡ x′ = cc in
-    let f′ : s .queue ≡ ahead ++ x ∷ behind = subst (λ (z : Slot). s .queue ≡ ahead ++ z ∷ behind) (sym same) f in
-    let all-passed = same-ahead ahead (w .passed) x behind q (sym f′ ∙ w .queue) (apart ahead behind f′) (apart (w .passed) q (w .queue)) in
-    let k = w .skipped y (subst (λ (l : List Slot). member y l ≡ true) all-passed m) in
-    record { bypassable = k .2; unfinished = k .0; large = k .1 }
-  where
-    apart : (p r : List Slot) → s .queue ≡ p ++ x ∷ r → member x p ≡ false
-    apart p r g = once-middle p x r (subst (λ (l : List Slot). twice l ≡ false) g (w .sound .once)) .0
+turn-passes : (x : Slot) (q : List Slot) (s : State) → Walking (x ∷ q) s → FromQueue (queueMoment x s)
+turn-passes x q s w =
+    record {
+      slot = x;
+      ahead = w .passed;
+      behind = q;
+      queue = w .queue;
+      once = w .sound .once;
+      grant = refl;
+      passed = λ y m. let k = w .skipped y m in record { bypassable = k .2; unfinished = k .0; large = k .1 };
+    }
 
 turn-watched : (v : Verdict) (x : Slot) (q : List Slot) (on : State → List Moment → Watched) (s : State) (ms : List Moment)
-    → Says v x s → Walking (x ∷ q) s → Each PassesOnlySuch ms
-    → ((b : State) (ns : List Moment) → Walking q b → Each PassesOnlySuch ns → Each PassesOnlySuch (on b ns .moments))
-    → Each PassesOnlySuch (watchTurn v x on s ms .moments)
+    → Says v x s → Walking (x ∷ q) s → Each FromQueue ms
+    → ((b : State) (ns : List Moment) → Walking q b → Each FromQueue ns → Each FromQueue (on b ns .moments))
+    → Each FromQueue (watchTurn v x on s ms .moments)
 turn-watched Leaves x q on s ms k w h r = r (leave x s) ms (walking-leaves x q s w) h
 turn-watched Fits x q on s ms k w h r =
-    r (grantQueued x s) _ (walking-fits x q s w k) (each-append PassesOnlySuch ms _ h (turn-passes x q s w, tt))
+    r (grantQueued x s) _ (walking-fits x q s w k) (each-append FromQueue ms _ h (turn-passes x q s w, tt))
 turn-watched Passed x q on s ms k w h r = r s ms (walking-passed x q s w k) h
 turn-watched Ends x q on s ms k w h r = h
 
-walk-watched : (q : List Slot) (s : State) (ms : List Moment) → Walking q s → Each PassesOnlySuch ms → Each PassesOnlySuch (watchWalk q s ms .moments)
+walk-watched : (q : List Slot) (s : State) (ms : List Moment) → Walking q s → Each FromQueue ms → Each FromQueue (watchWalk q s ms .moments)
 unfolding watchWalk
 walk-watched [] s ms w h = h
 walk-watched (x ∷ q) s ms w h =
     turn-watched (verdict x s) x q (λ b ns. watchWalk q b ns) s ms (verdict-says x s) w h (λ b ns. walk-watched q b ns)
 
-scan-watched : (s : State) → Sound s → Each PassesOnlySuch (watchScan s)
+scan-watched : (s : State) → Sound s → Each FromQueue (watchScan s)
 unfolding watchScan
 scan-watched s h = walk-watched (s .queue) s [] (walking s h) tt
-
--- a grant whose request is not in the queue
-not-from-queue : (m : Moment) → ((x : Slot) → m .grant .taker ≡ BySlot x → member x (m .state .queue) ≡ false) → PassesOnlySuch m
-not-from-queue g k x ahead behind e f y m = clash (subst (λ (l : List Slot). member x l ≡ true) (sym f) (member-middle x ahead behind)) (k x e)
 
 module _ (s : State) (v : Served s) where
   -- on a strictly fair semaphore a poll takes for a request that is not queued
   poll-watched : (p : Polling) (t : TaskId) (x : Slot) → PollSays p x s
-      → Each PassesOnlySuch (map (λ (g : Grant). record { grant = g; state = s }) (pollGrants p t x s))
+      → Each TakenAtOnce (map (λ (g : Grant). record { grant = g; state = s }) (pollGrants p t x s))
   poll-watched Holds t x k = tt
   poll-watched IsClosed t x k = tt
   poll-watched Stays t x k = tt
@@ -186,40 +172,34 @@ module _ (s : State) (v : Served s) where
   poll-watched QueuesFront t x k = tt
   poll-watched TakesReserved t x k = clash (k .1) (plain v x)
   poll-watched Takes t x k = (
-    not-from-queue (record { grant = record { taker = BySlot x; count = askedAt x s; task = t }; state = s }) (λ y e.
-        let same : x ≡ y = cc in
-        subst (λ (z : Slot). member z (s .queue) ≡ false) same (sym (v .sound .marked x) ∙ taker-unqueued v x k)),
+    λ y e. let same : x ≡ y = cc in subst (λ (z : Slot). member z (s .queue) ≡ false) same (sym (v .sound .marked x) ∙ taker-unqueued v x k),
     tt,
   )
   poll-watched Reserves t x k = tt
 
-  try-watched : (d : Direct) (t : TaskId) (n : ℕ) → Each PassesOnlySuch (map (λ (g : Grant). record { grant = g; state = s }) (tryBy d t n s .grants))
+  try-watched : (d : Direct) (t : TaskId) (n : ℕ) → Each TakenAtOnce (map (λ (g : Grant). record { grant = g; state = s }) (tryBy d t n s .grants))
   unfolding tryBy
   try-watched Shut t n = tt
   try-watched NoPermits t n = tt
-  try-watched Take t n = (
-    not-from-queue (record { grant = record { taker = ByTry; count = n; task = t }; state = s })
-        (λ y e. let z : _≡_ {A = ℕ} 0 1 = cc in absurd (omega arith)),
-    tt,
-  )
+  try-watched Take t n = (λ y e. let z : _≡_ {A = ℕ} 0 1 = cc in absurd (omega arith), tt)
 
-  release-watched : (t : TaskId) (n : ℕ) → Releasable t n s → Each PassesOnlySuch (watchRelease t n s)
+  release-watched : (t : TaskId) (n : ℕ) → Releasable t n s → Each FromQueue (watchRelease t n s)
   unfolding watchRelease
   release-watched t n k =
-      by-cond (Each PassesOnlySuch) (eqb n 0) (λ e. tt) (λ e.
-      by-cond (Each PassesOnlySuch) (strict (addReleased t n s))
+      by-cond (Each FromQueue) (eqb n 0) (λ e. tt) (λ e.
+      by-cond (Each FromQueue) (strict (addReleased t n s))
       (λ f. scan-watched (addReleased t n s) (sound-added t n s k (positive n e) (v .sound))) (λ f. tt))
 
-  drop-watched : (d : Dropping) (t : TaskId) (x : Slot) → Releasable t (returned d (askedAt x s)) s → Each PassesOnlySuch (watchDrop d t x s)
+  drop-watched : (d : Dropping) (t : TaskId) (x : Slot) → Releasable t (returned d (askedAt x s)) s → Each FromQueue (watchDrop d t x s)
   unfolding watchDrop
   drop-watched Leaving t x k =
-      by-cond (Each PassesOnlySuch) (strict s && (isFirst x (s .queue) || frontBypassable (leave x s .queue) (leave x s)))
+      by-cond (Each FromQueue) (strict s && (isFirst x (s .queue) || frontBypassable (leave x s .queue) (leave x s)))
       (λ e. scan-watched (leave x s) (sound-leave x s (v .sound))) (λ e. tt)
   drop-watched Unreserving t x k = tt
   drop-watched Returning t x k = release-watched t (askedAt x s) k
   drop-watched Nothing t x k = tt
 
-  act-watched : (t : TaskId) (a : Act) → Allowed t a s → Each PassesOnlySuch (watchAct t a s)
+  act-watched : (t : TaskId) (a : Act) → Allowed t a s → PassesOnlySuch (t does a) (watchAct t a s)
   unfolding watchAct effectOf make poll
   act-watched t (Acquire n) k = tt
   act-watched t (AcquireBypassable n) k = tt
@@ -234,11 +214,11 @@ module _ (s : State) (v : Served s) where
   act-watched t Sleep k = tt
   act-watched t Finish k = tt
 
-  step-watched : (a : Step) (o : Option ℕ) → refusal a s ≡ o → Each PassesOnlySuch (ifAccepted o (watchAct (a .actor) (a .act) s) [])
+  step-watched : (a : Step) (o : Option ℕ) → refusal a s ≡ o → PassesOnlySuch a (ifAccepted o (watchAct (a .actor) (a .act) s) [])
   step-watched a none e = act-watched (a .actor) (a .act) (accepted a s e .allowed)
   step-watched a (some n) e = tt
 
-pub run-watched : (as′ : List Step) (s : State) → Served s → Each (Each PassesOnlySuch) (watchRun as′ s)
+pub run-watched : (as′ : List Step) (s : State) → Served s → EachPair PassesOnlySuch as′ (watchRun as′ s)
 unfolding watchRun
 run-watched [] s v = tt
 run-watched (a ∷ as′) s v = (step-watched s v a (refusal a s) refl, run-watched as′ (step a s .state) (served-step a s v))

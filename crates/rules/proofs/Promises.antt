@@ -13,7 +13,7 @@ use Rattle.rules.specs.Scan.{scan}
 use Rattle.rules.specs.Runs.{Said, step, run}
 use Rattle.rules.specs.Broken.{broken}
 use Rattle.rules.specs.Sound.{AddUp}
-use Rattle.rules.specs.Promises.{Each, grantedIn, releasedIn, givenUpIn, NobodyStranded, grantsOf, watchWalk, watchRun, PassesOnlySuch, CountsFit, GrantFits, StartFits, StepFits}
+use Rattle.rules.specs.Promises.{Each, EachPair, grantedIn, releasedIn, givenUpIn, NobodyStranded, grantsOf, watchWalk, watchRun, PassesOnlySuch, CountsFit, GrantFits, StartFits, StepFits}
 use Rattle.rules.proofs.Soundness.{sound-unbroken}
 use Rattle.rules.proofs.KeepsSteps.{sound-run, sound-fresh}
 use Rattle.rules.proofs.Conservation.{run-balance}
@@ -40,9 +40,10 @@ module _ (start : Start) (accepted : refuses12 start ≡ false) (steps : List St
   pub nobody-stranded : start .fairness ≡ StrictlyFair → NobodyStranded (run steps (fresh start) .state)
   nobody-stranded f = served-run steps (fresh start) (served-fresh start accepted f) .nobody
 
-  -- 4. Who is passed over: on a strictly fair semaphore a grant from the queue leaves queued ahead of it, at the moment when it is made, only
-  -- Bypassable requests of unfinished tasks, each asking for more than is then in stock.
-  pub passed-over : start .fairness ≡ StrictlyFair → Each (Each PassesOnlySuch) (watchRun steps (fresh start))
+  -- 4. Who is passed over: on a strictly fair semaphore every grant of a release or a drop is from the queue: its request stands there at the moment
+  -- when it is made, and ahead of it only Bypassable requests of unfinished tasks, each asking for more than is then in stock. Every other grant is
+  -- taken by a try, or by a request that is not in the queue.
+  pub passed-over : start .fairness ≡ StrictlyFair → EachPair PassesOnlySuch steps (watchRun steps (fresh start))
   passed-over f = run-watched steps (fresh start) (served-fresh start accepted f)
 
   -- 5. Never broken: no state reached is one that 14 refuses.

@@ -28,12 +28,19 @@ use Rattle.rules.specs.Scan.{leave, verdict, grantQueued, queueGrant}
 use Rattle.rules.specs.Steps.{sortOf, bySort, addReleased, dropping, isFirst, frontBypassable, effectOf}
 use Rattle.rules.specs.Refusals.{refusal}
 use Rattle.rules.specs.Runs.{Said, step}
-use Rattle.rules.specs.Broken.{member, standingBatches}
+use Rattle.rules.specs.Broken.{member, twice, standingBatches}
 
 -- every element has the property
 abbrev pub Each {ℓ} : {A : Type ℓ} → (A → Type 0) → List A → Type 0
 Each P [] = Unit {0}
 Each P (x ∷ xs) = P x × Each P xs
+
+-- two lists of one length, related element by element
+abbrev pub EachPair {ℓ m} : {A : Type ℓ} {B : Type m} → (A → B → Type 0) → List A → List B → Type 0
+EachPair R [] [] = Unit {0}
+EachPair R [] (y ∷ ys) = ⊥
+EachPair R (x ∷ xs) [] = ⊥
+EachPair R (x ∷ xs) (y ∷ ys) = R x y × EachPair R xs ys
 
 -- Conservation.
 
@@ -97,10 +104,14 @@ pub record Watched : Type 0 where
   pub moments : List Moment
   pub state : State
 
+-- a grant from the queue is made in the state in which its request fits
+abbrev pub queueMoment : Slot → State → Moment
+queueMoment x s = record { grant = queueGrant x s; state = s }
+
 -- The walk of a scan, watched: the rules' own turn and walk, but that each grant is kept with the state in which it is made.
 abbrev pub watchTurn : Verdict → Slot → (State → List Moment → Watched) → State → List Moment → Watched
 watchTurn Leaves x on s ms = on (leave x s) ms
-watchTurn Fits x on s ms = on (grantQueued x s) (ms ++ record { grant = queueGrant x s; state = s } ∷ [])
+watchTurn Fits x on s ms = on (grantQueued x s) (ms ++ queueMoment x s ∷ [])
 watchTurn Passed x on s ms = on s ms
 watchTurn Ends x on s ms = record { moments = ms; state = s }
 
@@ -142,11 +153,23 @@ pub record MayBePassed (s : State) (y : Slot) : Type 0 where
   pub unfinished : ownerFinished y s ≡ false
   pub large : stock s < askedAt y s
 
--- A grant from the queue: its request stands in the queue at the moment when it is made. Ahead of it are only such requests.
-abbrev pub PassesOnlySuch : Moment → Type 0
-PassesOnlySuch m =
-    (x : Slot) (ahead behind : List Slot) → m .grant .taker ≡ BySlot x → m .state .queue ≡ ahead ++ x ∷ behind
-    → (y : Slot) → member y ahead ≡ true → MayBePassed (m .state) y
+-- A grant from the queue: at the moment when it is made its request stands there, once, and ahead of it are only such requests.
+pub record FromQueue (m : Moment) : Type 0 where
+  pub slot : Slot
+  pub ahead : List Slot
+  pub behind : List Slot
+  pub queue : m .state .queue ≡ ahead ++ slot ∷ behind
+  pub once : twice (m .state .queue) ≡ false
+  pub grant : m .grant ≡ queueGrant slot (m .state)
+  pub passed : (y : Slot) → member y ahead ≡ true → MayBePassed (m .state) y
+
+-- A grant taken at once: by a try, or by a request that is not in the queue.
+abbrev pub TakenAtOnce : Moment → Type 0
+TakenAtOnce m = (x : Slot) → m .grant .taker ≡ BySlot x → member x (m .state .queue) ≡ false
+
+-- The grants of a release or a drop are from the queue; those of any other step are taken at once.
+abbrev pub PassesOnlySuch : Step → List Moment → Type 0
+PassesOnlySuch a ms = Each (bySort (sortOf (a .act)) (λ n. FromQueue) (λ x. FromQueue) TakenAtOnce) ms
 
 -- Counts fit.
 
