@@ -8,6 +8,7 @@ pub mod Decimal
 pub mod Decisions
 pub mod Departing
 pub mod Eaches
+pub mod Finished
 pub mod GrantsFit
 pub mod Keeping
 pub mod KeepsCounts

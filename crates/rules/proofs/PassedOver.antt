@@ -10,7 +10,6 @@ use lib.Dec.{eqb}
 use Rattle.rules.specs.declared.TaskId.{TaskId}
 use Rattle.rules.specs.declared.Slot.{Slot}
 use Rattle.rules.specs.declared.Grant.{Grant}
-use Rattle.rules.specs.declared.Taker.the-variants.{BySlot, ByTry}
 use Rattle.rules.specs.declared.Verdict.{Verdict}
 use Rattle.rules.specs.declared.Verdict.the-variants.{Leaves, Fits, Passed, Ends}
 use Rattle.rules.specs.declared.Direct.{Direct}
