@@ -18,6 +18,7 @@ pub mod KeepsSteps
 pub mod KeepsTaking
 pub mod Laws
 pub mod Naming
+pub mod Orders
 pub mod Parts
 pub mod PassedOver
 pub mod Places
