@@ -1,5 +1,6 @@
--- Document 01, "Replies by number", row 14: what is broken in a state handed in. (A struct is broken besides where a count of it
--- passes the size of its array, so that it stands for no state.)
+-- Document 01, "Replies by number", row 14: what is broken in what is handed in. `broken` judges the state that the words handed in stand for. Words that
+-- stand for no state (a count past the size of its array, a kind, a task's state or a mark that no case has, an array of another length) are judged
+-- before it, by a clause of the code's own.
 use Prim.Native.Nat.{ℕ, zero, suc, _+_}
 use mathlib.Core.Bool.{Bool, true, false, not, _&&_, _||_, Bool·beq}
 use mathlib.Core.List.{List, [], _∷_}

@@ -112,6 +112,6 @@ grounds t Close s = []
 grounds t Sleep s = []
 grounds t Finish s = []
 
--- The first number that a step meets, or none. 14 stands before all of them: it is about what is handed in, and not about a state.
+-- The first number that a step meets, or none. 14 stands before all of them: it is about what is handed in, before any step is looked at (Broken).
 unfoldable pub refusal : Step → State → Option ℕ
 refusal a s = first (1 if noSuchTask (a .actor) s ∷ 2 if notRunnable (a .actor) s ∷ grounds (a .actor) (a .act) s)
