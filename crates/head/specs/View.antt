@@ -7,7 +7,7 @@ use Rattle.rules.specs.Sizes.{maxTasks, slotCount}
 use Rattle.splitting.specs.Plain.{Plain}
 use Rattle.splitting.specs.Who.{Granting, Outcome}
 use Rattle.replies.specs.Answers.{answerOf}
-use Rattle.waiters.specs.View.{waitersOf, reservationOf}
+use Rattle.queue.specs.View.{waitersOf, reservationOf}
 use Rattle.words.specs.View.{requestWords, taskWords, slotsOf, tasksOf, grantsOf, SlotsStand, TasksStand}
 use Rattle.head.specs.declared.Head.{Head}
 use Rattle.head.specs.declared.Granted.{Granted}

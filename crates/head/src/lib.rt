@@ -3,11 +3,11 @@ ghost use mathlib.Core.Path.{_≡_};
 ghost use mathlib.Core.Bool.{cond};
 ghost use lib.ListN.{length};
 ghost use Rattle.rules.specs.State.{isStrict};
-ghost use Rattle.waiters.specs.View.{waitersOf};
+ghost use Rattle.queue.specs.View.{waitersOf};
+use queue::Reservation;
+use queue::Waiters;
 use replies::Reply;
 use rules::Fairness;
-use waiters::Reservation;
-use waiters::Waiters;
 
 pub struct Head {
     pub fairness: Fairness,
@@ -15,7 +15,7 @@ pub struct Head {
     pub stock: u32,
     pub waiters: Waiters,
     pub reservation: Reservation,
-    pub tasks: usize,
+    pub tasks: u32,
 }
 
 // A head after some grants, and how many they are; the grants stand in words of their own.

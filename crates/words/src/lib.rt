@@ -227,12 +227,12 @@ pub fn lowest_free(slots: &[u32]) -> usize
 
 // ---- a task in two words
 // The task of a number; past the last, Runnable and unwoken.
-pub fn task_at(tasks: &[u32], count: usize, t: u32) -> Task
+pub fn task_at(tasks: &[u32], count: u32, t: u32) -> Task
     requires { ⌜ (count ≤ maxTasks) × (length (now tasks) ≡ maxTasks * taskWords) ⌝ }
     ensures { λ r. ⌜ taskOf r ≡ getD (tasksOf count (now (tasks .entry))) t noTask ⌝ }
 {
     let i = t as usize;
-    if count <= i {
+    if count <= t {
         return Task::none();
     }
     let b = 2 * i;
@@ -243,12 +243,12 @@ pub fn task_at(tasks: &[u32], count: usize, t: u32) -> Task
 }
 
 // The task's words are written; past the last, nothing.
-pub fn put_task(tasks: &mut [u32], count: usize, t: u32, a: Task)
+pub fn put_task(tasks: &mut [u32], count: u32, t: u32, a: Task)
     requires { ⌜ (count ≤ maxTasks) × (length (now tasks) ≡ maxTasks * taskWords) ⌝ }
     ensures { λ _. ⌜ TasksShow count (now (tasks .exit)) (now (tasks .entry)) (set (tasksOf count (now (tasks .entry))) t (taskOf a)) ⌝ }
 {
     let i = t as usize;
-    if count <= i {
+    if count <= t {
         return;
     }
     let state = a.state;
@@ -260,7 +260,7 @@ pub fn put_task(tasks: &mut [u32], count: usize, t: u32, a: Task)
 }
 
 // Whether the task of a number is finished.
-pub fn finished(tasks: &[u32], count: usize, t: u32) -> bool
+pub fn finished(tasks: &[u32], count: u32, t: u32) -> bool
     requires { ⌜ (count ≤ maxTasks) × (length (now tasks) ≡ maxTasks * taskWords) ⌝ }
     ensures { λ r. ⌜ r ≡ isFinished (getD (tasksOf count (now (tasks .entry))) t noTask .state) ⌝ }
 {
@@ -269,7 +269,7 @@ pub fn finished(tasks: &[u32], count: usize, t: u32) -> bool
 }
 
 // The task is unblocked and woken.
-pub fn rouse(tasks: &mut [u32], count: usize, t: u32)
+pub fn rouse(tasks: &mut [u32], count: u32, t: u32)
     requires { ⌜ (count ≤ maxTasks) × (length (now tasks) ≡ maxTasks * taskWords) ⌝ }
     ensures { λ _. ⌜ TasksShow count (now (tasks .exit)) (now (tasks .entry)) (set (tasksOf count (now (tasks .entry))) t (wakened (unblocked (getD (tasksOf count (now (tasks .entry))) t noTask)))) ⌝ }
 {
