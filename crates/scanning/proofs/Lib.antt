@@ -1,0 +1,5 @@
+pub mod Places
+pub mod Walks
+pub mod Stored
+pub mod Scanning
+pub mod Removing
