@@ -2,7 +2,7 @@
 use Prim.Native.Nat.{ℕ, _≤_, _<_}
 use native.Mathlib.Omega.{arith}
 use mathlib.Core.Path.{_≡_, sym, ap, subst, _∙_}
-use mathlib.Core.Bool.{true}
+use mathlib.Core.Bool.{true, false}
 use mathlib.Core.List.{List}
 use mathlib.Core.Option.{Option, none, some}
 use lib.ListN.{length, length-map}
@@ -14,7 +14,9 @@ use Rattle.rules.specs.State as S
 use Rattle.rules.specs.State.{State}
 use Rattle.rules.specs.Steps.{effect}
 use Rattle.rules.specs.Refusals.{refusal}
+use Rattle.rules.proofs.Soundness.{unbroken-sound}
 use Rattle.rules.proofs.KeepsSteps.{sound-effect}
+use Rattle.rules.specs.Broken.{anyOf}
 use Rattle.rules.specs.Sound as F
 use Rattle.rules.specs.Sound.{Sound, SoundPermits}
 use Rattle.splitting.specs.Plain as P
@@ -22,8 +24,10 @@ use Rattle.splitting.specs.Plain.{Plain}
 use Rattle.splitting.specs.Who as W
 use Rattle.splitting.specs.Times.{Times}
 use Rattle.splitting.specs.Split.{forget, forgetRequest, forgetSlot, whole, lift}
+use Rattle.splitting.specs.Broken.{brokenPlain}
 use Rattle.splitting.specs.Fitness.{Waits, IsReserved, WellMade, SoundPlain}
 use Rattle.splitting.proofs.Changes.{request-plain, used-plain, asked-plain, least-plain, of-plain, count-plain}
+use Rattle.splitting.proofs.Broken.{broken-whole}
 use Rattle.splitting.proofs.Whole.{forget-whole}
 use Rattle.splitting.proofs.Splitting.{plain-of-lift, refusal-of-lift}
 
@@ -128,3 +132,10 @@ pub sound-plain-effect : (a : Step) (p : Plain) → W.refusal a p ≡ none → S
 sound-plain-effect a p e h =
     subst SoundPlain (ap (λ (o : W.Outcome). o .state) (sym (plain-of-lift a p)))
     (sound-forgets _ (sound-effect a (lift p) (sym (refusal-of-lift a p) ∙ e) (sound-lift p h)))
+
+-- and what 14 does not refuse is sound
+pub unbroken-plain : (p : Plain) → length (p .slots) ≡ slotCount → brokenPlain p ≡ false → SoundPlain p
+unfolding lift anyOf
+unbroken-plain p n e =
+    sound-part p _
+    (unbroken-sound (lift p) (sym (slot-count (lift p)) ∙ ap (λ (q : Plain). length (q .slots)) (forget-lift p) ∙ n) (broken-whole p _ ∙ rw e))
