@@ -1,11 +1,11 @@
 -- When batches are broken, by what the ring and the sizes hold; and what batches that are not broken give to a caller.
 use Prim.Native.Nat.{ℕ, _≤_, _<_}
-use mathlib.Core.Path.{_≡_, refl, subst}
+use mathlib.Core.Path.{_≡_, subst}
 use mathlib.Core.Bool.{Bool, true, false, not, _||_, Bool·not-not}
 use mathlib.Core.List.{List}
 use mathlib.Core.Option.{Option}
 use borrow.Author.Tests.{lt-ltb, le-ltb, le-leb, lt-leb, leb-false, ltb-false, eqb-true, not-false}
-use lib.Dec.{leb, ltb, eqb}
+use lib.Dec.{ltb, eqb}
 use lib.ListN.{length}
 use Rattle.rules.specs.Sizes.{batchCount}
 use Rattle.rules.specs.Clock.{Clock}
@@ -14,7 +14,7 @@ use Rattle.rules.specs.Broken.{anyOf, standingBatches, isEmptyBatch, total, dif
 use Rattle.rules.specs.Sound.{SoundPermits}
 use Rattle.rules.proofs.Bools.{neither}
 use Rattle.batches.specs.declared.Batches.{Batches}
-use Rattle.batches.specs.View.{ringOf, batchesOf, setUpIf, standsIn, WellFormed}
+use Rattle.batches.specs.View.{ringOf, batchesOf, setUpIf, WellFormed}
 use Rattle.batches.specs.Broken.{permitsOf, headBeyond, badBatches, brokenBatches}
 use Rattle.batches.proofs.Rings.{ring-length}
 

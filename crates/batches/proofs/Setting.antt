@@ -1,24 +1,22 @@
 -- Batches that are set up: what stands, room for one more, and the ring after a meal.
-use Prim.Native.Nat.{ℕ, zero, suc, _<_}
-use native.Mathlib.Omega.{arith}
-use mathlib.Core.Path.{_≡_, refl, sym, ap, _∙_}
+use Prim.Native.Nat.{ℕ, _<_}
+use mathlib.Core.Path.{_≡_, refl, sym, _∙_}
 use mathlib.Core.Bool.{Bool, true, false}
 use mathlib.Core.List.{List, [], _∷_, _++_}
-use mathlib.Core.Option.{Option, none, some}
-use borrow.Author.Tests.{leb-false}
+use mathlib.Core.Option.{Option, some}
 use lib.Dec.{leb}
 use lib.ListN.{length}
 use Rattle.rules.specs.Sizes.{batchCount, width}
 use Rattle.rules.specs.Clock.{empty}
 use Rattle.rules.specs.State.{Batch}
 use Rattle.rules.specs.Fresh.{firstBatch}
-use Rattle.rules.specs.Taking.{Meal, eat, standingOf}
+use Rattle.rules.specs.Taking.{eat, standingOf}
 use Rattle.rules.specs.Refusals.{full}
 use Rattle.rules.proofs.Batches.{standing-room}
 use Rattle.clock.specs.declared.VectorClock.{VectorClock}
 use Rattle.batches.specs.declared.Batches.{Batches}
 use Rattle.batches.specs.declared.PermitClocks.{PermitClocks}
-use Rattle.batches.specs.View.{Ring, ringOf, batchesOf, setUpIf, standsIn, InRange, WellFormed, Holds, Ate, Stood, Fed}
+use Rattle.batches.specs.View.{ringOf, batchesOf, setUpIf, standsIn, WellFormed, Holds, Ate, Stood, Fed}
 use Rattle.batches.proofs.Rings.{ring-length}
 
 module _ (b : Batches) (k : ℕ) (sizes rows : List ℕ) where
