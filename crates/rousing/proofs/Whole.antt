@@ -50,13 +50,11 @@ module _ (h : Head) (ss ts : List ℕ) (s : Shaped h ss ts) where
         view = ap (λ (l : List Task). withTasks l p) (k .view);
       }
 
-  -- Waking the unfair.
-
-  pub shows-cancelled : (after : List ℕ) (v : Reservation) → length after ≡ length ts
-      → TasksShow (h .tasks) after ts (forEach (WakeIfEnough (h .stock)) (slotsOf ss) (waitersOf (h .waiters)) (tasksOf (h .tasks) ts))
-      → reservationOf v ≡ none → Shows (reservedAs v h) ss after (wakeUnfair (withReservation none p))
-  shows-cancelled after v e k n =
-      let t = tasks-shown after _ e k in
+  -- the same, and no reservation
+  pub unreserved-shown : (after : List ℕ) (us : List Task) → length after ≡ length ts → TasksShow (h .tasks) after ts us → (v : Reservation) → reservationOf v ≡ none
+      → Shows (reservedAs v h) ss after (withReservation none (withTasks us p))
+  unreserved-shown after us e k v n =
+      let t = tasks-shown after us e k in
       record {
         shaped =
             record {
@@ -67,8 +65,15 @@ module _ (h : Head) (ss ts : List ℕ) (s : Shaped h ss ts) where
               slots-stand = s .slots-stand;
               tasks-stand = t .shaped .tasks-stand;
             };
-        view = ap (λ (o : Option Slot). withReservation o (plainOf h ss after)) n ∙ ap (withReservation none) (t .view) ∙ sym (wakes-queue p);
+        view = ap (λ (o : Option Slot). withReservation o (plainOf h ss after)) n ∙ ap (withReservation none) (t .view);
       }
+
+  -- Waking the unfair.
+
+  pub shows-cancelled : (after : List ℕ) (v : Reservation) → length after ≡ length ts
+      → TasksShow (h .tasks) after ts (forEach (WakeIfEnough (h .stock)) (slotsOf ss) (waitersOf (h .waiters)) (tasksOf (h .tasks) ts))
+      → reservationOf v ≡ none → Shows (reservedAs v h) ss after (wakeUnfair (withReservation none p))
+  shows-cancelled after v e k n = shown (reservedAs v h) ss after _ _ (unreserved-shown after _ e k v n) (sym (wakes-queue p))
 
   pub shows-unreserved : not (h .reservation .made) ≡ true → (r : Head) (after : List ℕ) → Shows r ss after (wakeUnfair (withReservation none p)) → Shows r ss after (wakeUnfair p)
   shows-unreserved m r after k =
