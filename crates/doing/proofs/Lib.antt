@@ -1,1 +1,2 @@
 pub mod Altered
+pub mod Polls

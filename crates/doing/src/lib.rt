@@ -1,15 +1,20 @@
 // What a step does, once it is decided what it comes to: the effect of each decision, on a head by value and lent words.
 ghost use mathlib.Core.Path.{_≡_};
+ghost use mathlib.Core.Bool.{cond};
 ghost use Prim.Native.Nat.{_*_, _≤_, _<_};
 ghost use lib.ListN.{length};
 ghost use Rattle.rules.specs.Sizes.{slotCount, maxTasks};
-ghost use Rattle.rules.specs.Steps.Answer.{done};
-ghost use Rattle.splitting.specs.Plain.{alterTask, slept, finished};
-ghost use Rattle.splitting.specs.Who.{lowestFree, make as makeOf, quiet as quietOf};
+ghost use Rattle.rules.specs.Steps.Answer.{done, pending};
+ghost use Rattle.splitting.specs.Plain.{alterTask, alterRequest, slept, finished, polledPending};
+ghost use Rattle.splitting.specs.Who.{queueBack, queueFront, lowestFree, make as makeOf, quiet as quietOf};
+ghost use Rattle.replies.specs.Answers.{answerOf};
+ghost use Rattle.queue.specs.View.{waitersOf};
+ghost use Rattle.records.specs.View.{marking};
 ghost use Rattle.words.specs.View.{requestWords, taskWords, slotsOf};
-ghost use Rattle.doing.specs.Effects.{SlotsAnswer, TasksAnswer};
+ghost use Rattle.doing.specs.Effects.{SlotsAnswer, TasksAnswer, GrantsPoll};
 use head::Answered;
 use head::Head;
+use records::Marking;
 use records::Request;
 use replies::Reply;
 use rules::Ask;
@@ -66,6 +71,55 @@ pub fn finish(h: Head, tasks: &mut [u32], me: TaskId) -> Answered
     Answered {
         reply,
         count: 0,
+        head: h,
+    }
+}
+
+// ---- polls
+
+// A poll that only marks its request.
+fn polled(h: Head, slots: &mut [u32], x: Slot, m: Marking, reply: Reply) -> Answered
+    requires { ⌜ length (now slots) ≡ slotCount * requestWords ⌝ }
+    ensures { λ r. ⌜ SlotsAnswer (λ s. quietOf (answerOf reply) (alterRequest x (marking m) s)) r (now (slots .exit)) h (now (slots .entry)) ⌝ }
+{
+    words::mark(slots, x, m);
+    Answered {
+        reply,
+        count: 0,
+        head: h,
+    }
+}
+
+// The request joins the queue, in front of it or at its back, and its task waits.
+fn wait_in_queue(h: Head, slots: &mut [u32], me: TaskId, x: Slot, front: bool) -> Answered
+    requires { ⌜ (length (now slots) ≡ slotCount * requestWords) × (length (waitersOf (h .waiters)) < slotCount) ⌝ }
+    ensures { λ r. ⌜ SlotsAnswer (λ s. quietOf pending (alterRequest x (polledPending me) (cond front (queueFront x s) (queueBack x s)))) r (now (slots .exit)) h (now (slots .entry)) ⌝ }
+{
+    let joined = scanning::enqueue_waiter(h, slots, x, front);
+    let m = Marking::PollsPending(me);
+    let reply = Reply::Pending;
+    polled(joined, slots, x, m, reply)
+}
+
+// The request holds what it asked for: the one grant of its poll.
+fn poll_granted(
+    h: Head,
+    slots: &mut [u32],
+    grants: &mut [u32],
+    me: TaskId,
+    x: Slot,
+    asked: u32,
+) -> Answered
+    requires { ⌜ (length (now slots) ≡ slotCount * requestWords) × (length (now grants) ≡ slotCount * 3) ⌝ }
+    ensures { λ r. ⌜ GrantsPoll r (now (slots .exit)) (now (grants .exit)) me x asked h (now (slots .entry)) ⌝ }
+{
+    let m = Marking::PollsGranted;
+    words::mark(slots, x, m);
+    words::push_grant(grants, 0, x, asked, me.0 as u32);
+    let reply = Reply::Granted;
+    Answered {
+        reply,
+        count: 1,
         head: h,
     }
 }
