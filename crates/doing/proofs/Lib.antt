@@ -1,2 +1,4 @@
 pub mod Altered
 pub mod Polls
+pub mod Allowing
+pub mod Released

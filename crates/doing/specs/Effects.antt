@@ -1,11 +1,20 @@
 -- What is said of an effect that is lent the slots alone, or the tasks alone.
-use Prim.Native.Nat.{ℕ}
+use Prim.Native.Nat.{ℕ, _+_, _≤_, _<_}
+use mathlib.Core.Path.{_≡_}
+use mathlib.Core.Bool.{Bool, true, false}
 use mathlib.Core.List.{List, [], _∷_}
+use lib.ListN.{length}
 use Rattle.rules.specs.declared.TaskId.{TaskId}
 use Rattle.rules.specs.declared.Slot.{Slot}
 use Rattle.rules.specs.declared.Taker.the-variants.{BySlot}
+use Rattle.rules.specs.declared.Polling.{Polling}
+use Rattle.rules.specs.declared.Polling.the-variants.{Holds, IsClosed, Stays, QueuesBack, QueuesFront, TakesReserved, Takes, Reserves}
+use Rattle.rules.specs.declared.Dropping.{Dropping}
+use Rattle.rules.specs.Sizes.{slotCount, largest}
+use Rattle.rules.specs.Polling.{takesIn}
 use Rattle.rules.specs.Steps.Answer.{granted}
-use Rattle.splitting.specs.Plain.{Plain, polledGranted, alterRequest}
+use Rattle.rules.specs.Refusals.{returned}
+use Rattle.splitting.specs.Plain.{Plain, polledGranted, askedAt, alterRequest}
 use Rattle.splitting.specs.Who.{Outcome}
 use Rattle.head.specs.declared.Head.{Head}
 use Rattle.head.specs.declared.Answered.{Answered}
@@ -25,3 +34,29 @@ pollTakes t x n s = record { answer = granted; grants = record { taker = BySlot 
 
 abbrev pub GrantsPoll : Answered → List ℕ → List ℕ → TaskId → Slot → ℕ → Head → List ℕ → Type 0
 GrantsPoll r after grants t x n h before = (tasks : List ℕ) → Shaped h before tasks → Answers r after tasks grants (pollTakes t x n (plainOf h before tasks))
+
+-- what a release asks: the sum fits, unless it is of nothing
+abbrev pub MayRelease : ℕ → Plain → Type 0
+MayRelease n s = 0 < n → s .stock + n ≤ largest
+
+-- whether a poll's request joins the queue
+abbrev pub queuesIn : Polling → Bool
+queuesIn Holds = false
+queuesIn IsClosed = false
+queuesIn Stays = false
+queuesIn QueuesBack = true
+queuesIn QueuesFront = true
+queuesIn TakesReserved = false
+queuesIn Takes = false
+queuesIn Reserves = false
+
+-- what a poll's decision asks, with n for what the request asks for: to take, permits enough; to queue, a place
+pub record MayPoll (q : Polling) (n : ℕ) (x : Slot) (s : Plain) : Type 0 where
+  pub count : n ≡ askedAt x s
+  pub enough : takesIn q ≡ true → n ≤ s .stock
+  pub place : queuesIn q ≡ true → length (s .queue) < slotCount
+
+-- what a drop's decision asks, with n for what is given back
+pub record MayDrop (d : Dropping) (n : ℕ) (x : Slot) (s : Plain) : Type 0 where
+  pub count : n ≡ returned d (askedAt x s)
+  pub fits : MayRelease n s

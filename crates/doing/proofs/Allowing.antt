@@ -1,0 +1,89 @@
+-- What each effect asks, from the step's not being refused on a sound state: first of a state with clocks, then of a plain one.
+use Prim.Native.Nat.{ℕ, _+_, _-_, _≤_, _<_}
+use native.Mathlib.Omega.{arith}
+use mathlib.Core.Path.{_≡_, refl, sym, ap, subst, _∙_}
+use mathlib.Core.Bool.{Bool, true, false, false≢true}
+use mathlib.Core.Option.{none}
+use lib.ListN.{length}
+use Rattle.rules.specs.declared.TaskId.{TaskId}
+use Rattle.rules.specs.declared.Slot.{Slot}
+use Rattle.rules.specs.declared.Priority.{Priority}
+use Rattle.rules.specs.declared.Direct.{Direct}
+use Rattle.rules.specs.declared.Direct.the-variants.{Take}
+use Rattle.rules.specs.declared.Polling.{Polling}
+use Rattle.rules.specs.declared.Polling.the-variants.{Holds, IsClosed, Stays, QueuesBack, QueuesFront, TakesReserved, Takes, Reserves}
+use Rattle.rules.specs.declared.Dropping.{Dropping}
+use Rattle.rules.specs.Sizes.{slotCount}
+use Rattle.rules.specs.State as S
+use Rattle.rules.specs.State.{State}
+use Rattle.rules.specs.Polling as O
+use Rattle.rules.specs.Steps as E
+use Rattle.rules.specs.Refusals.{returned}
+use Rattle.rules.specs.Refusals as N
+use Rattle.rules.specs.Sound.{Sound}
+use Rattle.rules.proofs.Slots.{used-below}
+use Rattle.rules.proofs.KeepsQueue.{queue-room}
+use Rattle.rules.proofs.KeepsSteps.{take-fits}
+use Rattle.rules.proofs.Decisions.{PollSays, poll-says}
+use Rattle.rules.proofs.Accepting.{Releasable, Pollable, HasSlot}
+use Rattle.splitting.specs.Plain as P
+use Rattle.splitting.specs.Plain.{Plain}
+use Rattle.splitting.specs.Who as W
+use Rattle.splitting.specs.Split.{forget}
+use Rattle.splitting.proofs.Changes.{asked-plain, free-plain}
+use Rattle.splitting.proofs.Deciding.{direct-plain, polling-plain, dropping-plain}
+use Rattle.doing.specs.Effects.{MayRelease, queuesIn, MayPoll, MayDrop}
+
+module _ (s : State) where
+  pub slot-allowed : HasSlot s → W.lowestFree (forget s .slots) < slotCount
+  slot-allowed l = omega (arith, l, free-plain (s .slots))
+
+  pub try-allowed : (k : Priority) (n : ℕ) → W.direct k n (forget s) ≡ Take → n ≤ forget s .stock
+  try-allowed k n e = take-fits k n s (sym (direct-plain k n s) ∙ e)
+
+  pub release-allowed : (t : TaskId) (n : ℕ) → Releasable t n s → MayRelease n (forget s)
+  release-allowed t n k l = k .fits l
+
+  -- a poll: what its decision says
+  module _ (x : Slot) where
+    enough : (q : Polling) → PollSays q x s → O.takesIn q ≡ true → S.askedAt x s ≤ S.stock s
+    enough Holds k f = absurd (false≢true f)
+    enough IsClosed k f = absurd (false≢true f)
+    enough Stays k f = absurd (false≢true f)
+    enough QueuesBack k f = absurd (false≢true f)
+    enough QueuesFront k f = absurd (false≢true f)
+    enough TakesReserved k f = k .0 .fits
+    enough Takes k f = k .fits
+    enough Reserves k f = absurd (false≢true f)
+
+    unqueued : (q : Polling) → PollSays q x s → queuesIn q ≡ true → S.requestAt x s .queued ≡ false
+    unqueued Holds k f = absurd (false≢true f)
+    unqueued IsClosed k f = absurd (false≢true f)
+    unqueued Stays k f = absurd (false≢true f)
+    unqueued QueuesBack k f = k .unqueued
+    unqueued QueuesFront k f = k .0 .unqueued
+    unqueued TakesReserved k f = absurd (false≢true f)
+    unqueued Takes k f = absurd (false≢true f)
+    unqueued Reserves k f = absurd (false≢true f)
+
+    said : PollSays (W.polling x (forget s)) x s
+    said = subst (λ (q : Polling). PollSays q x s) (sym (polling-plain x s)) (poll-says x s)
+
+    pub poll-allowed : Sound s → (t : TaskId) → Pollable t x s → MayPoll (W.polling x (forget s)) (P.askedAt x (forget s)) x (forget s)
+    poll-allowed h t k =
+        record {
+          count = refl;
+          enough = λ f. omega (arith, enough (W.polling x (forget s)) said f, asked-plain x s);
+          place = λ f.
+              queue-room x s (sym (h .marked x) ∙ unqueued (W.polling x (forget s)) said f) (used-below x s (h .slots) (k .used)) h;
+        }
+
+    pub drop-allowed : (t : TaskId) → Releasable t (N.givesBack x s) s → MayDrop (W.dropping x (forget s)) (W.givesBack x (forget s)) x (forget s)
+    drop-allowed t k =
+        record {
+          count = refl;
+          fits = subst (λ (n : ℕ). MayRelease n (forget s)) (sym back) (k .fits);
+        }
+      where
+        back : W.givesBack x (forget s) ≡ N.givesBack x s
+        back = ap (λ (d : Dropping). returned d (P.askedAt x (forget s))) (dropping-plain x s) ∙ ap (returned (E.dropping x s)) (asked-plain x s)
