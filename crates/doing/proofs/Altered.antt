@@ -14,6 +14,7 @@ use Rattle.splitting.specs.Who.{quiet, lowestFree, make}
 use Rattle.replies.specs.declared.Reply.{Reply}
 use Rattle.replies.specs.declared.Reply.the-variants.{Done, Made}
 use Rattle.replies.specs.Answers.{answerOf}
+use Rattle.queue.specs.declared.Reservation.{Reservation}
 use Rattle.tables.specs.Table.{table}
 use Rattle.records.specs.declared.Task.{Task}
 use Rattle.records.specs.declared.Request.{Request}
@@ -30,6 +31,21 @@ no-grants g = refl
 -- an answer without grants
 pub quieted : (h : Head) (ss ts gs : List ℕ) (y : Reply) (s : Plain) → Shows h ss ts s → Answers (record { reply = y; count = 0; head = h }) ss ts gs (quiet (answerOf y) s)
 quieted h ss ts gs y s k = record { state = k; answer = refl; grants = no-grants gs; few = omega arith }
+
+abbrev pub other : Head → ℕ → Reservation → Head
+other h n v = record { fairness = h .fairness; closed = h .closed; stock = n; waiters = h .waiters; reservation = v; tasks = h .tasks }
+
+-- another stock or reservation, the same shape
+pub other-shaped : (h : Head) (ss ts : List ℕ) (n : ℕ) (v : Reservation) → Shaped h ss ts → Shaped (other h n v) ss ts
+other-shaped h ss ts n v s =
+    record {
+      tasks = s .tasks;
+      waiters = s .waiters;
+      slot-words = s .slot-words;
+      task-words = s .task-words;
+      slots-stand = s .slots-stand;
+      tasks-stand = s .tasks-stand;
+    }
 
 -- other slots, and other tasks
 module _ (h : Head) (ss ts : List ℕ) (s : Shaped h ss ts) where

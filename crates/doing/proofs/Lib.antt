@@ -2,3 +2,4 @@ pub mod Altered
 pub mod Polls
 pub mod Allowing
 pub mod Released
+pub mod Decided

@@ -45,19 +45,6 @@ module _ (s : Plain) (r : Granted) (ss ts gs : List ℕ) where
     pub releases : (n ≡ 0 → ⊥) → Grants r ss ts gs (scanOrWake (withStock (s .stock + n) s)) → Grants r ss ts gs (release n s)
     releases z g = by-count false (sym (ne-eqb n 0 z)) g
 
--- another stock, the same shape
-pub stock-shaped : (h : Head) (ss ts : List ℕ) (n : ℕ) → Shaped h ss ts
-    → Shaped (record { fairness = h .fairness; closed = h .closed; stock = n; waiters = h .waiters; reservation = h .reservation; tasks = h .tasks }) ss ts
-stock-shaped h ss ts n s =
-    record {
-      tasks = s .tasks;
-      waiters = s .waiters;
-      slot-words = s .slot-words;
-      task-words = s .task-words;
-      slots-stand = s .slots-stand;
-      tasks-stand = s .tasks-stand;
-    }
-
 -- ---- a drop, by its decision
 module _ (d : Dropping) (n : ℕ) (x : Slot) (s : Plain) (m : MayDrop d n x s) (r : Granted) (ss ts gs : List ℕ) where
   as-decided : (k : Dropping) → d ≡ k → Grants r ss ts gs (dropWork k x s) → Grants r ss ts gs (dropWork d x s)

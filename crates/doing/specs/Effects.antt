@@ -11,11 +11,13 @@ use Rattle.rules.specs.declared.Polling.{Polling}
 use Rattle.rules.specs.declared.Polling.the-variants.{Holds, IsClosed, Stays, QueuesBack, QueuesFront, TakesReserved, Takes, Reserves}
 use Rattle.rules.specs.declared.Dropping.{Dropping}
 use Rattle.rules.specs.Sizes.{slotCount, largest}
-use Rattle.rules.specs.Polling.{takesIn}
+use Rattle.rules.specs.Polling.{takesIn, polled}
+use Rattle.rules.specs.Steps.{pollAnswer}
 use Rattle.rules.specs.Steps.Answer.{granted}
 use Rattle.rules.specs.Refusals.{returned}
-use Rattle.splitting.specs.Plain.{Plain, polledGranted, askedAt, alterRequest}
-use Rattle.splitting.specs.Who.{Outcome}
+use Rattle.splitting.specs.Plain.{Plain, polledGranted, askedAt, alterRequest, _▷_}
+use Rattle.splitting.specs.Who.{Granting, Outcome}
+use Rattle.splitting.specs.Who as W
 use Rattle.head.specs.declared.Head.{Head}
 use Rattle.head.specs.declared.Answered.{Answered}
 use Rattle.head.specs.View.{plainOf, Shaped, Answers}
@@ -27,6 +29,10 @@ SlotsAnswer f r after h before = (tasks grants : List ℕ) → Shaped h before t
 -- on the tasks: whatever the slots and the grants' words
 abbrev pub TasksAnswer : (Plain → Outcome) → Answered → List ℕ → Head → List ℕ → Type 0
 TasksAnswer f r after h before = (slots grants : List ℕ) → Shaped h slots before → Answers r slots after grants (f (plainOf h slots before))
+
+-- no grants made: whatever stands in their words
+abbrev pub AnyGrants : Answered → List ℕ → List ℕ → Outcome → Type 0
+AnyGrants r slots tasks o = (grants : List ℕ) → Answers r slots tasks grants o
 
 -- the marks and the one grant of a poll that takes: whatever the tasks
 abbrev pub pollTakes : TaskId → Slot → ℕ → Plain → Outcome
@@ -60,3 +66,10 @@ pub record MayPoll (q : Polling) (n : ℕ) (x : Slot) (s : Plain) : Type 0 where
 pub record MayDrop (d : Dropping) (n : ℕ) (x : Slot) (s : Plain) : Type 0 where
   pub count : n ≡ returned d (askedAt x s)
   pub fits : MayRelease n s
+
+-- a poll that was decided, and a drop
+abbrev pub pollBy : Polling → TaskId → Slot → Plain → Outcome
+pollBy q t x s = record { answer = pollAnswer (polled q); grants = W.pollGrants q t x s; state = s ▷ W.pollWork q t x ▷ alterRequest x (W.pollMark (polled q) t) }
+
+abbrev pub dropBy : Dropping → Slot → Plain → Granting
+dropBy d x s = let g = W.dropWork d x s in record { grants = g .grants; state = W.free x (g .state) }

@@ -1,23 +1,29 @@
 // What a step does, once it is decided what it comes to: the effect of each decision, on a head by value and lent words.
 ghost use mathlib.Core.Path.{_≡_};
 ghost use mathlib.Core.Bool.{cond};
+ghost use mathlib.Core.Option.{none, some};
 ghost use Prim.Native.Nat.{_*_, _≤_, _<_};
 ghost use lib.ListN.{length};
+ghost use Rattle.rules.specs.declared.Direct.the-variants.{Take};
 ghost use Rattle.rules.specs.Sizes.{slotCount, maxTasks};
 ghost use Rattle.rules.specs.Steps.Answer.{done, pending};
-ghost use Rattle.splitting.specs.Plain.{alterTask, alterRequest, slept, finished, polledPending};
-ghost use Rattle.splitting.specs.Who.{queueBack, queueFront, lowestFree, make as makeOf, quiet as quietOf};
+ghost use Rattle.splitting.specs.Plain.{withReservation, alterTask, alterRequest, slept, finished, polledPending, _▷_};
+ghost use Rattle.splitting.specs.Who.{taking, queueBack, queueFront, leave, wakeUnfair, reblock, lowestFree, make as makeOf, quiet as quietOf, tryBy};
 ghost use Rattle.replies.specs.Answers.{answerOf};
 ghost use Rattle.queue.specs.View.{waitersOf};
 ghost use Rattle.records.specs.View.{marking};
 ghost use Rattle.words.specs.View.{requestWords, taskWords, slotsOf};
-ghost use Rattle.doing.specs.Effects.{SlotsAnswer, TasksAnswer, GrantsPoll};
+ghost use Rattle.head.specs.View.{plainOf, Shaped, Answers};
+ghost use Rattle.doing.specs.Effects.{SlotsAnswer, TasksAnswer, AnyGrants, pollTakes, GrantsPoll, MayPoll, pollBy};
 use head::Answered;
 use head::Head;
+use queue::Reservation;
 use records::Marking;
 use records::Request;
 use replies::Reply;
 use rules::Ask;
+use rules::Direct;
+use rules::Polling;
 use rules::Slot;
 use rules::TaskId;
 
@@ -121,5 +127,143 @@ fn poll_granted(
         reply,
         count: 1,
         head: h,
+    }
+}
+
+// The holder of the reservation takes its permits, and lets the others race for the rest.
+fn take_reserved(
+    h: Head,
+    slots: &mut [u32],
+    tasks: &mut [u32],
+    grants: &mut [u32],
+    me: TaskId,
+    x: Slot,
+    asked: u32,
+) -> Answered
+    requires { ⌜ (Shaped h (now slots) (now tasks)) × (length (now grants) ≡ slotCount * 3) × (asked ≤ h .stock) ⌝ }
+    ensures { λ r. ⌜ Answers r (now (slots .exit)) (now (tasks .exit)) (now (grants .exit)) (pollTakes me x asked (plainOf h (now (slots .entry)) (now (tasks .entry)) ▷ withReservation none ▷ taking asked ▷ wakeUnfair)) ⌝ }
+{
+    let nobody = Reservation::none();
+    let mut taken = h;
+    taken.stock = taken.stock - asked;
+    taken.reservation = nobody;
+    let woken = rousing::wake_unfair_waiters(taken, slots, tasks);
+    poll_granted(woken, slots, grants, me, x, asked)
+}
+
+// A request takes its permits, and leaves the queue if it is in it.
+fn take_and_leave(
+    h: Head,
+    slots: &mut [u32],
+    tasks: &mut [u32],
+    grants: &mut [u32],
+    me: TaskId,
+    x: Slot,
+    asked: u32,
+) -> Answered
+    requires { ⌜ (Shaped h (now slots) (now tasks)) × (length (now grants) ≡ slotCount * 3) × (asked ≤ h .stock) ⌝ }
+    ensures { λ r. ⌜ Answers r (now (slots .exit)) (now (tasks .exit)) (now (grants .exit)) (pollTakes me x asked (plainOf h (now (slots .entry)) (now (tasks .entry)) ▷ taking asked ▷ leave x ▷ reblock me)) ⌝ }
+{
+    let mut taken = h;
+    taken.stock = taken.stock - asked;
+    let left = scanning::leave(taken, slots, x);
+    rousing::reblock_if_unfair(left, slots, tasks, me);
+    poll_granted(left, slots, grants, me, x, asked)
+}
+
+// A request takes the reservation, and its task waits.
+fn reserve(h: Head, slots: &mut [u32], tasks: &mut [u32], me: TaskId, x: Slot) -> Answered
+    requires { ⌜ Shaped h (now slots) (now tasks) ⌝ }
+    ensures { λ r. ⌜ AnyGrants r (now (slots .exit)) (now (tasks .exit)) (quietOf pending (alterRequest x (polledPending me) (plainOf h (now (slots .entry)) (now (tasks .entry)) ▷ leave x ▷ withReservation (some x) ▷ reblock me))) ⌝ }
+{
+    let mut mine = scanning::leave(h, slots, x);
+    let reservation = Reservation::of(x);
+    mine.reservation = reservation;
+    rousing::reblock_if_unfair(mine, slots, tasks, me);
+    let m = Marking::PollsPending(me);
+    let reply = Reply::Pending;
+    polled(mine, slots, x, m, reply)
+}
+
+// A poll, as it was decided.
+pub fn poll_by(
+    h: Head,
+    slots: &mut [u32],
+    tasks: &mut [u32],
+    grants: &mut [u32],
+    me: TaskId,
+    x: Slot,
+    asked: u32,
+    p: Polling,
+) -> Answered
+    requires { ⌜ (Shaped h (now slots) (now tasks)) × (length (now grants) ≡ slotCount * 3) × MayPoll p asked x (plainOf h (now slots) (now tasks)) ⌝ }
+    ensures { λ r. ⌜ Answers r (now (slots .exit)) (now (tasks .exit)) (now (grants .exit)) (pollBy p me x (plainOf h (now (slots .entry)) (now (tasks .entry)))) ⌝ }
+{
+    match p {
+        Polling::Holds => polled(h, slots, x, Marking::PollsGranted, Reply::Granted),
+        Polling::IsClosed => polled(h, slots, x, Marking::PollsClosed, Reply::Closed),
+        Polling::Stays => polled(h, slots, x, Marking::PollsPending(me), Reply::Pending),
+        Polling::QueuesBack => wait_in_queue(h, slots, me, x, false),
+        Polling::QueuesFront => wait_in_queue(h, slots, me, x, true),
+        Polling::TakesReserved => take_reserved(h, slots, tasks, grants, me, x, asked),
+        Polling::Takes => take_and_leave(h, slots, tasks, grants, me, x, asked),
+        Polling::Reserves => reserve(h, slots, tasks, me, x),
+    }
+}
+
+// ---- tries
+
+// A try takes its permits: its one grant.
+fn take_by_try(
+    h: Head,
+    slots: &[u32],
+    tasks: &mut [u32],
+    grants: &mut [u32],
+    me: TaskId,
+    num_permits: u32,
+) -> Answered
+    requires { ⌜ (Shaped h (now slots) (now tasks)) × (length (now grants) ≡ slotCount * 3) × («num_permits» ≤ h .stock) ⌝ }
+    ensures { λ r. ⌜ Answers r (now (slots .entry)) (now (tasks .exit)) (now (grants .exit)) (tryBy Take me «num_permits» (plainOf h (now (slots .entry)) (now (tasks .entry)))) ⌝ }
+{
+    let mut taken = h;
+    taken.stock = taken.stock - num_permits;
+    rousing::reblock_if_unfair(taken, slots, tasks, me);
+    words::grant_try(grants, num_permits, me.0 as u32);
+    let reply = Reply::Granted;
+    Answered {
+        reply,
+        count: 1,
+        head: taken,
+    }
+}
+
+// A try that finds no permits, or a closed semaphore.
+fn fail_try(h: Head, reply: Reply) -> Answered
+    ensures { λ r. ⌜ r ≡ record { reply = reply; count = 0; head = h } ⌝ }
+{
+    Answered {
+        reply,
+        count: 0,
+        head: h,
+    }
+}
+
+// A try, as the direct rule decided.
+pub fn try_by(
+    h: Head,
+    slots: &[u32],
+    tasks: &mut [u32],
+    grants: &mut [u32],
+    me: TaskId,
+    num_permits: u32,
+    d: Direct,
+) -> Answered
+    requires { ⌜ (Shaped h (now slots) (now tasks)) × (length (now grants) ≡ slotCount * 3) × (d ≡ Take → «num_permits» ≤ h .stock) ⌝ }
+    ensures { λ r. ⌜ Answers r (now (slots .entry)) (now (tasks .exit)) (now (grants .exit)) (tryBy d me «num_permits» (plainOf h (now (slots .entry)) (now (tasks .entry)))) ⌝ }
+{
+    match d {
+        Direct::Shut => fail_try(h, Reply::Closed),
+        Direct::NoPermits => fail_try(h, Reply::NoPermits),
+        Direct::Take => take_by_try(h, slots, tasks, grants, me, num_permits),
     }
 }
