@@ -178,6 +178,30 @@ impl PermitClocks {
 }
 
 impl Batches {
+    // The batches of a semaphore that a task makes: set up, with the maker's clock.
+    pub fn new(sizes: &mut [u32], rows: &mut [u32], stock: u32, clock: VectorClock) -> Batches
+        requires { ⌜ Lent (now sizes) (now rows) ⌝ }
+        ensures { λ r. ⌜ Stood r (now (sizes .exit)) (now (rows .exit)) (firstBatch stock (clock .0)) ⌝ }
+    {
+        let none = PermitClocks { head: 0, count: 0 };
+        let permit_clocks = none.restart(sizes, rows, stock, clock);
+        Batches {
+            ready: true,
+            permit_clocks,
+        }
+    }
+
+    // The batches of a semaphore that no task makes: not set up.
+    pub fn const_new() -> Batches
+        ensures { λ r. ⌜ r .ready ≡ false ⌝ }
+    {
+        let permit_clocks = PermitClocks { head: 0, count: 0 };
+        Batches {
+            ready: false,
+            permit_clocks,
+        }
+    }
+
     // Whether 64 batches stand.
     pub fn is_full(self) -> bool
         ensures { λ r. ⌜ ((sizes rows : List ℕ) → r ≡ full (standsIn self sizes rows)) ⌝ }

@@ -33,7 +33,7 @@ pub const SLOTS: usize = 32;
 
 // ---- one array of clocks
 // The clock numbered i of n; the empty clock past them.
-fn clock_in(flat: &[u32], n: usize, i: usize) -> VectorClock
+pub fn clock_in(flat: &[u32], n: usize, i: usize) -> VectorClock
     requires { ⌜ (n ≤ batchCount) × (length (now flat) ≡ n * width) ⌝ }
     ensures { λ r. ⌜ r .0 ≡ clockIn n (now (flat .entry)) i ⌝ }
 {
@@ -44,7 +44,7 @@ fn clock_in(flat: &[u32], n: usize, i: usize) -> VectorClock
 }
 
 // The clock numbered i of n is set; past them nothing is.
-fn put_clock(flat: &mut [u32], n: usize, i: usize, clock: VectorClock)
+pub fn put_clock(flat: &mut [u32], n: usize, i: usize, clock: VectorClock)
     requires { ⌜ (n ≤ batchCount) × (length (now flat) ≡ n * width) ⌝ }
     ensures { λ _. ⌜ clocksAt n (now (flat .exit)) ≡ set (clocksAt n (now (flat .entry))) i (clock .0) ⌝ }
 {
