@@ -20,8 +20,8 @@ use clock::VectorClock;
 
 // Where the batches stand in the ring of 64 places: the size and the clock of the batch at place p are sizes[p] and row p of rows.
 pub struct PermitClocks {
-    pub head: usize,
-    pub count: usize,
+    pub head: u32,
+    pub count: u32,
 }
 
 // Set up or not; not set up, the ring is no part of the state.
@@ -84,7 +84,7 @@ pub fn join_row(flat: &mut [u32], place: usize, clock: VectorClock)
 
 impl PermitClocks {
     // The places of the ring.
-    pub const PLACES: usize = 64;
+    pub const PLACES: u32 = 64;
 
     // One batch more, at the back.
     fn push_back(
@@ -98,7 +98,7 @@ impl PermitClocks {
         ensures { λ r. ⌜ Holds (ringOf r (now (sizes .exit)) (now (rows .exit))) (batchesOf (ringOf self (now (sizes .entry)) (now (rows .entry))) ++ record { size = size; clock = clock .0 } ∷ []) ⌝ }
     {
         let mut out = self;
-        let place = (out.head + out.count) % PermitClocks::PLACES;
+        let place = ((out.head + out.count) % PermitClocks::PLACES) as usize;
         sizes[place] = size;
         store_clock(rows, place, clock);
         out.count = out.count + 1;
@@ -138,7 +138,7 @@ impl PermitClocks {
             if count == 0 {
                 break;
             }
-            let head = out.head;
+            let head = out.head as usize;
             let size = sizes[head];
             let clock = clock_at(rows, head);
             acc = acc.update(clock);
@@ -147,7 +147,7 @@ impl PermitClocks {
                 left = 0;
             } else {
                 left -= size;
-                out.head = (head + 1) % PermitClocks::PLACES;
+                out.head = (out.head + 1) % PermitClocks::PLACES;
                 out.count = count - 1;
             }
         }
@@ -163,9 +163,9 @@ impl PermitClocks {
         ensures { λ r. ⌜ ((rows : List ℕ) → r ≡ not (anyOf isEmptyBatch (batchesOf (ringOf self (now (sizes .entry)) rows)) || not (eqb (total (batchesOf (ringOf self (now (sizes .entry)) rows))) n))) ⌝ }
     {
         let mut sum: u64 = 0;
-        let mut i: usize = 0;
+        let mut i: u32 = 0;
         while i < self.count {
-            let place = (self.head + i) % PermitClocks::PLACES;
+            let place = ((self.head + i) % PermitClocks::PLACES) as usize;
             let size = sizes[place];
             if size == 0 {
                 return false;

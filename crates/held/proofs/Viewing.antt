@@ -27,8 +27,8 @@ use Rattle.clock.specs.declared.VectorClock.{VectorClock}
 use Rattle.records.specs.declared.Request.{Request}
 use Rattle.records.specs.declared.Task.{Task}
 use Rattle.records.specs.View.{taskOf, requestOf, Stands}
-use Rattle.waiters.specs.declared.Reservation.{Reservation}
-use Rattle.waiters.specs.View.{reservationOf}
+use Rattle.queue.specs.declared.Reservation.{Reservation}
+use Rattle.queue.specs.View.{reservationOf}
 use Rattle.words.specs.View.{taskWords, taskIn, tasksOf, slotsOf}
 use Rattle.batches.specs.Broken.{permitsOf}
 use Rattle.times.specs.View.{clocksAt, clockIn}

@@ -7,6 +7,7 @@ use Rattle.rules.specs.declared.Slot.{Slot}
 use Rattle.rules.specs.Sizes.{width, maxTasks, slotCount}
 use Rattle.rules.specs.State.{State, inUse, requestAt}
 use Rattle.rules.specs.Steps.{Outcome}
+use Rattle.rules.specs.Sound.{Sound}
 use Rattle.splitting.specs.Plain.{Plain}
 use Rattle.splitting.specs.Kept.{Kept, timesKept}
 use Rattle.splitting.specs.Split.{whole, forgetRequest}
@@ -34,6 +35,10 @@ pub record Words : Type 0 where
   pub makers : List ℕ
   pub clocks : List ℕ
 
+abbrev pub words : List ℕ → List ℕ → List ℕ → List ℕ → List ℕ → List ℕ → List ℕ → Words
+words slots tasks sizes rows last makers clocks =
+    record { slots = slots; tasks = tasks; sizes = sizes; rows = rows; last = last; makers = makers; clocks = clocks }
+
 -- who, and when
 abbrev pub plainIn : BatchSemaphore → Words → Plain
 plainIn s w = plainOf (s .head) (w .slots) (w .tasks)
@@ -52,6 +57,12 @@ pub record ShapedAll (s : BatchSemaphore) (w : Words) : Type 0 where
   pub latest : length (w .last) ≡ width
   pub makers : length (w .makers) ≡ slotCount * width
   pub clocks : length (w .clocks) ≡ maxTasks * width
+
+-- what every step may count on, and gives back: shaped so, room for the grants, and a sound state
+pub record Fit (s : BatchSemaphore) (w : Words) (gs : List ℕ) : Type 0 where
+  pub shaped : ShapedAll s w
+  pub grants : length gs ≡ slotCount * 3
+  pub sound : Sound (viewOf s w)
 
 -- what a step gave, with its grants in their words
 abbrev pub outcomeOf : Stepped → Words → List ℕ → Outcome

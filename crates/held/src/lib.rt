@@ -30,10 +30,10 @@ pub struct Stepped {
 }
 
 // The tasks that have words, of so many.
-fn worded(n: usize) -> usize
+fn worded(n: u32) -> u32
     ensures { λ r. ⌜ r ≡ min n maxTasks ⌝ }
 {
-    if n < times::TASKS { n } else { times::TASKS }
+    if n < 16 { n } else { 16 }
 }
 
 impl BatchSemaphore {
@@ -86,7 +86,7 @@ impl BatchSemaphore {
         ensures { λ r. ⌜ ((w : Words) → w .clocks ≡ now (clocks .entry) → r .0 ≡ taskAt t (viewOf self w) .clock) ⌝ }
     {
         let i = t.0 as usize;
-        if self.head.tasks <= i {
+        if self.head.tasks <= t.0 as u32 {
             return VectorClock::new();
         }
         times::clock_in(clocks, times::TASKS, i)

@@ -17,6 +17,9 @@ loop-holds c = sums-none _ _
 add-place : tie.Need-add-place Inv-loop μ-loop
 add-place c = search needs
 
+cast-place : tie.Need-cast-place Inv-loop μ-loop
+cast-place c = search needs
+
 mul-size : tie.Need-mul-size Inv-loop μ-loop
 mul-size c = search needs
 
@@ -52,6 +55,7 @@ adds-up-spec =
     μ-loop
     loop-holds
     add-place
+    cast-place
     mul-size
     shared-slice-read-size
     returns

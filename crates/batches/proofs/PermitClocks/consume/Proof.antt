@@ -22,6 +22,9 @@ new-requires c κs = search needs
 loop-holds : tie.Need-loop-holds Inv-loop μ-loop
 loop-holds c = record { range = search needs; sizes = search needs; rows = search needs; meal = rw (c .new .ensures) }
 
+cast-head : tie.Need-cast-head Inv-loop μ-loop
+cast-head c = search needs
+
 mul-size : tie.Need-mul-size Inv-loop μ-loop
 mul-size c = search needs
 
@@ -49,7 +52,7 @@ loop-less c = search needs
 loop-again : tie.Need-loop-again Inv-loop μ-loop
 loop-again c =
     let u = c .before in
-    let s = u .before .before .before in
+    let s = u .before .before .before .before in
     let t = s .before in
     let l = t .before .loop in
     turn-part (ringOf (l .out) (l .sizes) _) (l .acc) (l .left) _ (l .inv) _ _ (t .loop-test .taken) (s .if1 .left) (u .before .clock-at .ensures) (u .update .ensures) (c .if2 .taken)
@@ -65,11 +68,11 @@ loop-less-2 c = search needs
 
 loop-again-2 : tie.Need-loop-again-2 Inv-loop μ-loop
 loop-again-2 c =
-    let u = c .before in
-    let s = u .before .before .before in
+    let u = c .before .before in
+    let s = u .before .before .before .before in
     let t = s .before in
     let l = t .before .loop in
-    turn-whole (ringOf (l .out) (l .sizes) _) (l .acc) (l .left) _ (l .inv) _ _ (t .loop-test .taken) (s .if1 .left) (u .before .clock-at .ensures) (u .update .ensures) (c .if2 .left)
+    turn-whole (ringOf (l .out) (l .sizes) _) (l .acc) (l .left) _ (l .inv) _ _ (t .loop-test .taken) (s .if1 .left) (u .before .clock-at .ensures) (u .update .ensures) (c .before .if2 .left)
 
 same-length : tie.Need-same-length Inv-loop μ-loop
 same-length c = search needs
@@ -91,6 +94,7 @@ consume-spec =
     μ-loop
     new-requires
     loop-holds
+    cast-head
     mul-size
     slice-read-size
     clock-at-requires

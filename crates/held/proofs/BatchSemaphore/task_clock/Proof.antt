@@ -7,6 +7,9 @@ use Rattle.held.proofs.BatchSemaphore.task_clock.Tie as tie
 cast-i : tie.Need-cast-i
 cast-i c = search needs
 
+cast-if1 : tie.Need-cast-if1
+cast-if1 c = search needs
+
 new-requires : tie.Need-new-requires
 new-requires c κs = search needs
 
@@ -20,4 +23,4 @@ returns-2 : tie.Need-returns-2
 returns-2 c = search (clock-read, needs)
 
 pub task-clock-spec : {M : Type 1} → statement M
-task-clock-spec = tie.close (tie.spec cast-i new-requires returns clock-in-requires returns-2)
+task-clock-spec = tie.close (tie.spec cast-i cast-if1 new-requires returns clock-in-requires returns-2)
