@@ -18,12 +18,19 @@ use Rattle.words.specs.View.{slotsOf, SlotsShow}
 use Rattle.head.specs.declared.Head.{Head}
 use Rattle.head.specs.declared.Granted.{Granted}
 use Rattle.head.specs.View.{plainOf, Shaped, Shows, Grants}
-use Rattle.doing.specs.Effects.{MayRelease, MayDrop}
+use Rattle.doing.specs.Effects.{Ungranted, MayRelease, MayDrop}
 use Rattle.doing.proofs.Altered.{no-grants, slots-so}
 
 -- nothing granted on the way
 pub ungranted-so : (h : Head) (ss ts gs : List ℕ) (s : Plain) → Shows h ss ts s → Grants (record { head = h; count = 0 }) ss ts gs (ungranted s)
 ungranted-so h ss ts gs s k = record { state = k; grants = no-grants gs; few = omega arith }
+
+pub ungranted-any : (h : Head) (ss ts : List ℕ) (s : Plain) → Shows h ss ts s → Ungranted (record { head = h; count = 0 }) ss ts s
+ungranted-any h ss ts s k gs = ungranted-so h ss ts gs s k
+
+-- as it stands
+pub stands-so : (h : Head) (ss ts gs : List ℕ) → Shaped h ss ts → Grants (record { head = h; count = 0 }) ss ts gs (ungranted (plainOf h ss ts))
+stands-so h ss ts gs s = ungranted-so h ss ts gs (plainOf h ss ts) (record { shaped = s; view = refl })
 
 -- ---- a release
 module _ (s : Plain) (r : Granted) (ss ts gs : List ℕ) where
@@ -54,9 +61,9 @@ module _ (d : Dropping) (n : ℕ) (x : Slot) (s : Plain) (m : MayDrop d n x s) (
   unfolding dropWork
   leaves e g = as-decided Leaving e g
 
-  pub unreserves : d ≡ Unreserving → Grants r ss ts gs (ungranted (wakeUnfair (withReservation none s))) → Grants r ss ts gs (dropWork d x s)
+  pub unreserves : d ≡ Unreserving → Ungranted r ss ts (wakeUnfair (withReservation none s)) → Grants r ss ts gs (dropWork d x s)
   unfolding dropWork
-  unreserves e g = as-decided Unreserving e g
+  unreserves e g = as-decided Unreserving e (g gs)
 
   pub gives-back : d ≡ Returning → Grants r ss ts gs (release n s) → Grants r ss ts gs (dropWork d x s)
   unfolding dropWork

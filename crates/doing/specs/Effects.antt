@@ -19,8 +19,9 @@ use Rattle.splitting.specs.Plain.{Plain, polledGranted, askedAt, alterRequest, 
 use Rattle.splitting.specs.Who.{Granting, Outcome}
 use Rattle.splitting.specs.Who as W
 use Rattle.head.specs.declared.Head.{Head}
+use Rattle.head.specs.declared.Granted.{Granted}
 use Rattle.head.specs.declared.Answered.{Answered}
-use Rattle.head.specs.View.{plainOf, Shaped, Answers}
+use Rattle.head.specs.View.{plainOf, Shaped, Grants, Answers}
 
 -- on the slots: whatever the tasks and the grants' words
 abbrev pub SlotsAnswer : (Plain → Outcome) → Answered → List ℕ → Head → List ℕ → Type 0
@@ -33,6 +34,9 @@ TasksAnswer f r after h before = (slots grants : List ℕ) → Shaped h slots be
 -- no grants made: whatever stands in their words
 abbrev pub AnyGrants : Answered → List ℕ → List ℕ → Outcome → Type 0
 AnyGrants r slots tasks o = (grants : List ℕ) → Answers r slots tasks grants o
+
+abbrev pub Ungranted : Granted → List ℕ → List ℕ → Plain → Type 0
+Ungranted r slots tasks s = (grants : List ℕ) → Grants r slots tasks grants (W.ungranted s)
 
 -- the marks and the one grant of a poll that takes: whatever the tasks
 abbrev pub pollTakes : TaskId → Slot → ℕ → Plain → Outcome

@@ -1,21 +1,23 @@
 // What a step does, once it is decided what it comes to: the effect of each decision, on a head by value and lent words.
 ghost use mathlib.Core.Path.{_≡_};
-ghost use mathlib.Core.Bool.{cond};
+ghost use mathlib.Core.Bool.{false, cond};
 ghost use mathlib.Core.Option.{none, some};
 ghost use Prim.Native.Nat.{_*_, _≤_, _<_};
 ghost use lib.ListN.{length};
 ghost use Rattle.rules.specs.declared.Direct.the-variants.{Take};
 ghost use Rattle.rules.specs.Sizes.{slotCount, maxTasks};
+ghost use Rattle.rules.specs.Broken.{twice};
 ghost use Rattle.rules.specs.Steps.Answer.{done, pending};
 ghost use Rattle.splitting.specs.Plain.{withReservation, alterTask, alterRequest, slept, finished, polledPending, _▷_};
-ghost use Rattle.splitting.specs.Who.{taking, queueBack, queueFront, leave, wakeUnfair, reblock, lowestFree, make as makeOf, quiet as quietOf, tryBy};
+ghost use Rattle.splitting.specs.Who.{taking, queueBack, queueFront, leave, wakeUnfair, reblock, lowestFree, make as makeOf, quiet as quietOf, tryBy, scanOrWake, release as releaseOf, dropWork};
 ghost use Rattle.replies.specs.Answers.{answerOf};
 ghost use Rattle.queue.specs.View.{waitersOf};
 ghost use Rattle.records.specs.View.{marking};
 ghost use Rattle.words.specs.View.{requestWords, taskWords, slotsOf};
-ghost use Rattle.head.specs.View.{plainOf, Shaped, Answers};
-ghost use Rattle.doing.specs.Effects.{SlotsAnswer, TasksAnswer, AnyGrants, pollTakes, GrantsPoll, MayPoll, pollBy};
+ghost use Rattle.head.specs.View.{plainOf, Shaped, Grants, Answers};
+ghost use Rattle.doing.specs.Effects.{SlotsAnswer, TasksAnswer, AnyGrants, pollTakes, GrantsPoll, Ungranted, MayRelease, MayPoll, MayDrop, pollBy, dropBy};
 use head::Answered;
+use head::Granted;
 use head::Head;
 use queue::Reservation;
 use records::Marking;
@@ -23,6 +25,7 @@ use records::Request;
 use replies::Reply;
 use rules::Ask;
 use rules::Direct;
+use rules::Dropping;
 use rules::Polling;
 use rules::Slot;
 use rules::TaskId;
@@ -266,4 +269,91 @@ pub fn try_by(
         Direct::NoPermits => fail_try(h, Reply::NoPermits),
         Direct::Take => take_by_try(h, slots, tasks, grants, me, num_permits),
     }
+}
+
+// ---- giving back
+
+// Strictly fair, those at the front of the queue are granted what fits; unfair, those who could go on are woken, and race.
+fn scan_or_wake(h: Head, slots: &mut [u32], tasks: &mut [u32], grants: &mut [u32]) -> Granted
+    requires { ⌜ (Shaped h (now slots) (now tasks)) × (length (now grants) ≡ slotCount * 3) × (twice (waitersOf (h .waiters)) ≡ false) ⌝ }
+    ensures { λ r. ⌜ Grants r (now (slots .exit)) (now (tasks .exit)) (now (grants .exit)) (scanOrWake (plainOf h (now (slots .entry)) (now (tasks .entry)))) ⌝ }
+{
+    if h.strictly_fair() {
+        return scanning::unblock_waiters_from_front(h, slots, tasks, grants);
+    }
+    let woken = rousing::wake_unfair_waiters(h, slots, tasks);
+    Granted {
+        head: woken,
+        count: 0,
+    }
+}
+
+// Permits are given back; none is nothing.
+pub fn release(
+    h: Head,
+    slots: &mut [u32],
+    tasks: &mut [u32],
+    grants: &mut [u32],
+    num_permits: u32,
+) -> Granted
+    requires { ⌜ (Shaped h (now slots) (now tasks)) × (length (now grants) ≡ slotCount * 3) × (twice (waitersOf (h .waiters)) ≡ false) × MayRelease «num_permits» (plainOf h (now slots) (now tasks)) ⌝ }
+    ensures { λ r. ⌜ Grants r (now (slots .exit)) (now (tasks .exit)) (now (grants .exit)) (releaseOf «num_permits» (plainOf h (now (slots .entry)) (now (tasks .entry)))) ⌝ }
+{
+    if num_permits == 0 {
+        return Granted { head: h, count: 0 };
+    }
+    let mut more = h;
+    more.stock = more.stock + num_permits;
+    scan_or_wake(more, slots, tasks, grants)
+}
+
+// The reservation ends, and the others race.
+fn unreserve(h: Head, slots: &[u32], tasks: &mut [u32]) -> Granted
+    requires { ⌜ Shaped h (now slots) (now tasks) ⌝ }
+    ensures { λ r. ⌜ Ungranted r (now (slots .entry)) (now (tasks .exit)) (plainOf h (now (slots .entry)) (now (tasks .entry)) ▷ withReservation none ▷ wakeUnfair) ⌝ }
+{
+    let woken = rousing::cancel_reservation(h, slots, tasks);
+    Granted {
+        head: woken,
+        count: 0,
+    }
+}
+
+// What a drop does before the slot is free.
+fn drop_work(
+    h: Head,
+    slots: &mut [u32],
+    tasks: &mut [u32],
+    grants: &mut [u32],
+    x: Slot,
+    back: u32,
+    d: Dropping,
+) -> Granted
+    requires { ⌜ (Shaped h (now slots) (now tasks)) × (length (now grants) ≡ slotCount * 3) × (twice (waitersOf (h .waiters)) ≡ false) × MayDrop d back x (plainOf h (now slots) (now tasks)) ⌝ }
+    ensures { λ r. ⌜ Grants r (now (slots .exit)) (now (tasks .exit)) (now (grants .exit)) (dropWork d x (plainOf h (now (slots .entry)) (now (tasks .entry)))) ⌝ }
+{
+    match d {
+        Dropping::Leaving => scanning::remove_waiter(h, slots, tasks, grants, x),
+        Dropping::Unreserving => unreserve(h, slots, tasks),
+        Dropping::Returning => release(h, slots, tasks, grants, back),
+        Dropping::Nothing => Granted { head: h, count: 0 },
+    }
+}
+
+// The request goes, as was decided: it leaves the queue, ends its reservation or gives back what it holds; and its slot is free.
+pub fn drop_request(
+    h: Head,
+    slots: &mut [u32],
+    tasks: &mut [u32],
+    grants: &mut [u32],
+    x: Slot,
+    back: u32,
+    d: Dropping,
+) -> Granted
+    requires { ⌜ (Shaped h (now slots) (now tasks)) × (length (now grants) ≡ slotCount * 3) × (twice (waitersOf (h .waiters)) ≡ false) × MayDrop d back x (plainOf h (now slots) (now tasks)) ⌝ }
+    ensures { λ r. ⌜ Grants r (now (slots .exit)) (now (tasks .exit)) (now (grants .exit)) (dropBy d x (plainOf h (now (slots .entry)) (now (tasks .entry)))) ⌝ }
+{
+    let worked = drop_work(h, slots, tasks, grants, x, back, d);
+    words::free(slots, x);
+    worked
 }
