@@ -11,15 +11,18 @@ use lib.ListN.{length, set}
 use Rattle.rules.specs.declared.Slot.{Slot}
 use Rattle.rules.specs.declared.Dropping.{Dropping}
 use Rattle.rules.specs.declared.Dropping.the-variants.{Leaving, Unreserving, Returning, Nothing}
+use Rattle.rules.specs.Steps.Answer.{done}
 use Rattle.rules.specs.Refusals.{returned}
 use Rattle.splitting.specs.Plain.{Plain, strict, askedAt, withStock, withReservation}
-use Rattle.splitting.specs.Who.{Granting, scan, wakeUnfair, ungranted, scanOrWake, release, dropQueued, dropWork, free}
+use Rattle.splitting.specs.Who.{Granting, scan, wakeUnfair, ungranted, scanOrWake, release, dropQueued, dropWork, free, quiet, doing}
+use Rattle.replies.specs.declared.Reply.the-variants.{Done}
 use Rattle.words.specs.View.{slotsOf, SlotsShow}
 use Rattle.head.specs.declared.Head.{Head}
 use Rattle.head.specs.declared.Granted.{Granted}
-use Rattle.head.specs.View.{plainOf, Shaped, Shows, Grants}
-use Rattle.doing.specs.Effects.{Ungranted, MayRelease, MayDrop}
-use Rattle.doing.proofs.Altered.{no-grants, slots-so}
+use Rattle.head.specs.declared.Answered.{Answered}
+use Rattle.head.specs.View.{plainOf, Shaped, Shows, Grants, Answers}
+use Rattle.doing.specs.Effects.{AnyGrants, Ungranted, MayRelease, MayDrop}
+use Rattle.doing.proofs.Altered.{no-grants, quieted, slots-so}
 
 -- nothing granted on the way
 pub ungranted-so : (h : Head) (ss ts gs : List ℕ) (s : Plain) → Shows h ss ts s → Grants (record { head = h; count = 0 }) ss ts gs (ungranted s)
@@ -27,6 +30,9 @@ ungranted-so h ss ts gs s k = record { state = k; grants = no-grants gs; few = o
 
 pub ungranted-any : (h : Head) (ss ts : List ℕ) (s : Plain) → Shows h ss ts s → Ungranted (record { head = h; count = 0 }) ss ts s
 ungranted-any h ss ts s k gs = ungranted-so h ss ts gs s k
+
+pub done-any : (h : Head) (ss ts : List ℕ) (s : Plain) → Shows h ss ts s → AnyGrants (record { reply = Done; count = 0; head = h }) ss ts (quiet done s)
+done-any h ss ts s k gs = quieted h ss ts gs Done s k
 
 -- as it stands
 pub stands-so : (h : Head) (ss ts gs : List ℕ) → Shaped h ss ts → Grants (record { head = h; count = 0 }) ss ts gs (ungranted (plainOf h ss ts))
@@ -86,3 +92,8 @@ dropped r ss ts gs after x g k f n =
       grants = k .grants;
       few = k .few;
     }
+
+-- done, with what was granted
+pub done-with : (g : Granted) (r : Answered) (ss ts gs : List ℕ) (o : Granting) → r ≡ record { reply = Done; count = g .count; head = g .head } → Grants g ss ts gs o → Answers r ss ts gs (doing o)
+done-with g r ss ts gs o e k =
+    subst (λ (r : Answered). Answers r ss ts gs (doing o)) (sym e) (record { state = k .state; answer = refl; grants = k .grants; few = k .few })

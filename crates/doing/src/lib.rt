@@ -9,7 +9,8 @@ ghost use Rattle.rules.specs.Sizes.{slotCount, maxTasks};
 ghost use Rattle.rules.specs.Broken.{twice};
 ghost use Rattle.rules.specs.Steps.Answer.{done, pending};
 ghost use Rattle.splitting.specs.Plain.{withReservation, alterTask, alterRequest, slept, finished, polledPending, _▷_};
-ghost use Rattle.splitting.specs.Who.{taking, queueBack, queueFront, leave, wakeUnfair, reblock, lowestFree, make as makeOf, quiet as quietOf, tryBy, scanOrWake, release as releaseOf, dropWork};
+ghost use Rattle.splitting.specs.Who.{taking, queueBack, queueFront, leave, wakeUnfair, reblock, lowestFree, make as makeOf, quiet as quietOf, tryBy, scanOrWake, release as releaseOf, dropWork, closing};
+ghost use Rattle.replies.specs.declared.Reply.the-variants.{Done};
 ghost use Rattle.replies.specs.Answers.{answerOf};
 ghost use Rattle.queue.specs.View.{waitersOf};
 ghost use Rattle.records.specs.View.{marking};
@@ -356,4 +357,33 @@ pub fn drop_request(
     let worked = drop_work(h, slots, tasks, grants, x, back, d);
     words::free(slots, x);
     worked
+}
+
+// ---- what is answered where nothing is decided
+
+// Done, with what was granted on the way.
+fn done_with(g: Granted) -> Answered
+    ensures { λ r. ⌜ r ≡ record { reply = Done; count = g .count; head = g .head } ⌝ }
+{
+    let head = g.head;
+    let reply = Reply::Done;
+    Answered {
+        reply,
+        count: g.count,
+        head,
+    }
+}
+
+// The semaphore is closed.
+fn close(h: Head, slots: &mut [u32], tasks: &mut [u32]) -> Answered
+    requires { ⌜ Shaped h (now slots) (now tasks) ⌝ }
+    ensures { λ r. ⌜ AnyGrants r (now (slots .exit)) (now (tasks .exit)) (quietOf done (closing (plainOf h (now (slots .entry)) (now (tasks .entry))))) ⌝ }
+{
+    let closed = closing::close(h, slots, tasks);
+    let reply = Reply::Done;
+    Answered {
+        reply,
+        count: 0,
+        head: closed,
+    }
 }
