@@ -28,7 +28,7 @@ use Rattle.splitting.proofs.Changes.{slot-plain, request-plain, used-pl
 use Rattle.splitting.proofs.Whole.{forget-whole}
 
 -- two tests are the same where one fails exactly if the other does
-same-test : (x y : Bool) → (x ≡ false → y ≡ false) → (y ≡ false → x ≡ false) → x ≡ y
+pub same-test : (x y : Bool) → (x ≡ false → y ≡ false) → (y ≡ false → x ≡ false) → x ≡ y
 same-test true true f g = refl
 same-test true false f g = clash refl (g refl)
 same-test false true f g = sym (f refl)

@@ -1,0 +1,6 @@
+pub mod Requests
+pub mod Weights
+pub mod Naming
+pub mod Rows
+pub mod Counting
+pub mod Weighing
