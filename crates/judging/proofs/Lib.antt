@@ -4,3 +4,6 @@ pub mod Naming
 pub mod Rows
 pub mod Counting
 pub mod Weighing
+pub mod Tasks
+pub mod Deciding
+pub mod Who

@@ -1,1 +1,2 @@
 pub mod Weights
+pub mod Broken

@@ -1,15 +1,23 @@
 // Refusal 14: whether what is handed in is broken, for any value of every field and any lent words.
 ghost use mathlib.Core.Path.{_≡_};
-ghost use mathlib.Core.Bool.{Bool, false};
+ghost use mathlib.Core.Bool.{Bool, false, not, _&&_, _||_};
 ghost use mathlib.Core.List.{List};
 ghost use Prim.Native.Nat.{ℕ, _+_, _*_, _≤_, _<_};
+ghost use lib.Dec.{ltb};
 ghost use lib.ListN.{length, getD};
-ghost use Rattle.rules.specs.Sizes.{slotCount};
+ghost use Rattle.rules.specs.Sizes.{slotCount, maxTasks};
 ghost use Rattle.rules.specs.Refusals.{badReserving};
-ghost use Rattle.queue.specs.View.{waitersOf};
-ghost use Rattle.words.specs.View.{requestWords};
-ghost use Rattle.judging.specs.Weights.{wordsAt, askWrong, namedWrong, otherWrong, requestWrong, weights, weightOf, sumFrom, Marks, Weighs, heaviest};
+ghost use Rattle.rules.specs.Broken.{anyOf, reservedSlots};
+ghost use Rattle.splitting.specs.Broken.{cannotWait};
+ghost use Rattle.queue.specs.View.{waitersOf, reservationOf};
+ghost use Rattle.records.specs.View.{requestOf};
+ghost use Rattle.words.specs.View.{requestWords, taskWords, slotsOf};
+ghost use Rattle.judging.specs.Weights.{wordsAt, askWrong, namedWrong, otherWrong, requestWrong, weights, weightOf, sumFrom, Marks, Weighs, heaviest, brokenSlots};
+ghost use Rattle.judging.specs.Broken.{strayTasks, misreserved, brokenWho};
+use head::Head;
+use queue::Reservation;
 use queue::Waiters;
+use records::Request;
 
 // ---- a slot's words
 // A reserving request that refusal 7 would meet.
@@ -186,4 +194,112 @@ fn mark_named(seen: &mut [bool], waiters: Waiters)
         seen[k] = true;
         i += 1;
     }
+}
+
+// ---- the parts of row 14
+// What stands in the slots, against the queue, and the queue itself.
+fn slots_are_broken(waiters: Waiters, slots: &[u32], tasks: u32, fair: bool) -> bool
+    requires { ⌜ (waiters .len ≤ slotCount) × (length (now slots) ≡ slotCount * requestWords) ⌝ }
+    ensures { λ r. ⌜ r ≡ brokenSlots tasks fair (waitersOf waiters) (now (slots .entry)) ⌝ }
+{
+    let len = waiters.len as usize;
+    let mut seen = [false; 256];
+    mark_named(&mut seen, waiters);
+    slots_weight(slots, &seen, tasks, fair) != len
+}
+
+// A task's state or mark that stands for nothing: the words of all tasks together show it, since the largest that stand are 3 and 1.
+fn tasks_are_broken(tasks: &[u32], count: u32) -> bool
+    requires { ⌜ (count ≤ maxTasks) × (length (now tasks) ≡ maxTasks * taskWords) ⌝ }
+    ensures { λ r. ⌜ r ≡ strayTasks count (now (tasks .entry)) ⌝ }
+{
+    let len = count as usize;
+    let mut states: u32 = 0;
+    let mut marks: u32 = 0;
+    let mut t: usize = 0;
+    while t < len {
+        states = states | tasks[2 * t];
+        marks = marks | tasks[2 * t + 1];
+        t += 1;
+    }
+    if 3 < states {
+        return true;
+    }
+    1 < marks
+}
+
+// A request that is free, queued, not reserving, or cannot wait: that holds, has completed, or names none of the tasks.
+fn cannot_reserve(r: Request, tasks: u32) -> bool
+    ensures { λ b. ⌜ b ≡ (not (r .used) || r .queued || not (r .ask .reserving) || cannotWait tasks (requestOf r)) ⌝ }
+{
+    if !r.used {
+        return true;
+    }
+    if r.queued {
+        return true;
+    }
+    if !r.ask.reserving {
+        return true;
+    }
+    if r.holding {
+        return true;
+    }
+    if r.completed {
+        return true;
+    }
+    tasks <= r.task
+}
+
+fn reservation_is_broken(reservation: Reservation, slots: &[u32], tasks: u32) -> bool
+    requires { ⌜ length (now slots) ≡ slotCount * requestWords ⌝ }
+    ensures { λ r. ⌜ r ≡ anyOf (misreserved tasks (slotsOf (now (slots .entry)))) (reservedSlots (reservationOf reservation)) ⌝ }
+{
+    if !reservation.made {
+        return false;
+    }
+    let x = reservation.slot;
+    if 32 <= x.0 {
+        return true;
+    }
+    let r = words::request_at(slots, x);
+    cannot_reserve(r, tasks)
+}
+
+// Closed with a queue or a reservation.
+fn closed_is_broken(closed: bool, waiting: u32, reserved: bool) -> bool
+    ensures { λ r. ⌜ r ≡ (closed && (ltb 0 waiting || reserved)) ⌝ }
+{
+    if !closed {
+        return false;
+    }
+    if 0 < waiting {
+        return true;
+    }
+    reserved
+}
+
+// All but the batches.
+fn who_is_broken(h: Head, slots: &[u32], tasks: &[u32]) -> bool
+    requires { ⌜ (length (now slots) ≡ slotCount * requestWords) × (length (now tasks) ≡ maxTasks * taskWords) ⌝ }
+    ensures { λ r. ⌜ r ≡ brokenWho h (now (slots .entry)) (now (tasks .entry)) ⌝ }
+{
+    let waiters = h.waiters;
+    let reservation = h.reservation;
+    if 16 < h.tasks {
+        return true;
+    }
+    if 32 < waiters.len {
+        return true;
+    }
+    if tasks_are_broken(tasks, h.tasks) {
+        return true;
+    }
+    let fair = h.strictly_fair();
+    if slots_are_broken(waiters, slots, h.tasks, fair) {
+        return true;
+    }
+    if reservation_is_broken(reservation, slots, h.tasks) {
+        return true;
+    }
+    closed_is_broken(h.closed, waiters.len, reservation.made)
 }

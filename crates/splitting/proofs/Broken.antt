@@ -53,7 +53,7 @@ module _ {A : Type 0} where
       let r = none-apart p q l (h .1) in
       (b .0 nor r .0, b .1 nor r .1)
 
-  any-same : (p q : A → Bool) (l : List A) → ((x : A) → p x ≡ q x) → anyOf p l ≡ anyOf q l
+  pub any-same : (p q : A → Bool) (l : List A) → ((x : A) → p x ≡ q x) → anyOf p l ≡ anyOf q l
   unfolding anyOf
   any-same p q [] f = refl
   any-same p q (x ∷ l) f = rw (f x, any-same p q l f)
