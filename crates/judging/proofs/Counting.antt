@@ -11,7 +11,7 @@ use lib.Dec.{eqb}
 use lib.ListN.{length}
 use Rattle.rules.specs.declared.Slot.{Slot}
 use Rattle.rules.specs.Broken.{anyOf, member, twice}
-use Rattle.rules.proofs.Bools.{by-test, clash}
+use Rattle.rules.proofs.Bools.{by-test}
 use Rattle.judging.specs.Weights.{sumFrom}
 
 module _ (used : ℕ → Bool) where

@@ -7,3 +7,6 @@ pub mod Weighing
 pub mod Tasks
 pub mod Deciding
 pub mod Who
+pub mod Lengths
+pub mod Unbroken
+pub mod Keys

@@ -4,14 +4,13 @@ use native.Mathlib.Numerals.{add-one}
 use native.Mathlib.Omega.{arith}
 use mathlib.Core.Path.{_≡_, refl, sym, _∙_}
 use mathlib.Core.Bool.{Bool, true, false, _||_}
-use mathlib.Core.List.{List, [], _∷_, _++_}
+use mathlib.Core.List.{List, [], _∷_}
 use borrow.Author.Tests.{eqb-true, eqb-false}
 use lib.Dec.{eqb}
 use lib.ListN.{length, getD, set, take}
 use lib.Seq.{take-suc, getD-set-same, getD-set-other}
 use Rattle.rules.specs.declared.Slot.{Slot}
 use Rattle.rules.specs.State.{sameSlot}
-use Rattle.rules.specs.Sizes.{slotCount}
 use Rattle.rules.specs.Broken.{anyOf, member}
 use Rattle.rules.proofs.Bools.{or-right}
 use Rattle.rules.proofs.Queues.{any-append}

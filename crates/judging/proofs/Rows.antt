@@ -1,21 +1,21 @@
 -- The tests of a request's words say exactly whether they stand for nothing, or for a request that is not as it must be.
 use Prim.Native.Nat.{ℕ, _+_, _*_, _≤_, _<_}
 use native.Mathlib.Omega.{arith}
-use mathlib.Core.Path.{_≡_, refl, sym, ap, _∙_}
+use mathlib.Core.Path.{_≡_, _∙_}
 use mathlib.Core.Bool.{Bool, true, false, cond, not, _&&_, _||_, Bool·beq}
 use mathlib.Core.List.{List}
-use borrow.Author.Tests.{ltb-false, leb-true, leb-false, eqb-true, eqb-false, le-ltb, le-leb, lt-leb, eq-eqb, ne-eqb, not-false}
+use borrow.Author.Tests.{ltb-false, leb-true, leb-false, eqb-true, eqb-false, le-ltb, le-leb, lt-leb, ne-eqb, not-false}
 use lib.Dec.{leb, ltb, eqb}
 use lib.ListN.{getD, drop}
 use lib.Seq.{getD-take, getD-drop}
 use Rattle.rules.specs.Refusals.{badReserving}
-use Rattle.rules.proofs.Bools.{clash, neither, _nor_, both, beq-same, same-beq}
+use Rattle.rules.proofs.Bools.{clash, neither, _nor_, both, beq-same}
 use Rattle.splitting.specs.Broken.{misfits}
 use Rattle.splitting.proofs.Broken.{same-test}
 use Rattle.tables.specs.Table.{row}
 use Rattle.records.specs.View.{seen}
 use Rattle.words.specs.View.{marked, isKind, isMark, requestWords, decoded, rowStands}
-use Rattle.judging.specs.Weights.{wordsAt, askWrong, namedWrong, otherWrong, requestWrong}
+use Rattle.judging.specs.Weights.{wordsAt, requestWrong}
 
 pub row-word : (w : List ℕ) (k j : ℕ) → j < requestWords → getD (row requestWords w k) j 0 ≡ getD w (k * requestWords + j) 0
 row-word w k j h = getD-take requestWords (drop (k * requestWords) w) j 0 h ∙ getD-drop (k * requestWords) w j 0

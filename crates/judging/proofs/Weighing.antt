@@ -6,21 +6,20 @@ use native.Mathlib.Omega.{arith}
 use mathlib.Core.Path.{_≡_, refl, sym, ap, _∙_}
 use mathlib.Core.Bool.{Bool, true, false, cond, not, _&&_, _||_}
 use mathlib.Core.List.{List}
-use mathlib.Core.Option.{Option, none, some}
-use borrow.Author.Tests.{eqb-true, eqb-false, eq-eqb, ne-eqb, lt-leb}
-use lib.Dec.{leb, eqb}
+use mathlib.Core.Option.{Option, none}
+use borrow.Author.Tests.{eqb-true, eqb-false, ne-eqb, lt-leb}
+use lib.Dec.{eqb}
 use lib.ListN.{length, getD}
 use Rattle.rules.specs.declared.Slot.{Slot}
 use Rattle.rules.specs.Sizes.{slotCount}
 use Rattle.rules.specs.State.{isSome}
-use Rattle.rules.specs.Broken.{anyOf, member, twice, slotsFrom, everySlot}
+use Rattle.rules.specs.Broken.{anyOf, member, slotsFrom, everySlot}
 use Rattle.rules.proofs.Bools.{by-test, clash, neither}
 use Rattle.splitting.specs.Plain.{Request as RequestRule}
-use Rattle.splitting.specs.Broken.{misfits}
 use Rattle.tables.specs.Table.{row}
-use Rattle.words.specs.View.{requestWords, decoded, slotIn, slotsOf, rowStands}
+use Rattle.words.specs.View.{requestWords, decoded, slotsOf, rowStands}
 use Rattle.words.proofs.Slots.{slot-there, slot-past}
-use Rattle.judging.specs.Weights.{wordsAt, requestWrong, heavy, weightOf, weights, sumFrom, Marks, isWrong, isFreeIn, brokenSlots}
+use Rattle.judging.specs.Weights.{wordsAt, requestWrong, heavy, weights, sumFrom, Marks, isWrong, brokenSlots}
 use Rattle.judging.proofs.Rows.{row-word, row-judged}
 use Rattle.judging.proofs.Weights.{stray-weighs, free-weighs, used-weighs}
 use Rattle.judging.proofs.Counting.{usedIn, counted-all}

@@ -13,8 +13,10 @@ ghost use Rattle.queue.specs.View.{waitersOf, reservationOf};
 ghost use Rattle.records.specs.View.{requestOf};
 ghost use Rattle.words.specs.View.{requestWords, taskWords, slotsOf};
 ghost use Rattle.judging.specs.Weights.{wordsAt, askWrong, namedWrong, otherWrong, requestWrong, weights, weightOf, sumFrom, Marks, Weighs, heaviest, brokenSlots};
-ghost use Rattle.judging.specs.Broken.{strayTasks, misreserved, brokenWho};
+ghost use Rattle.held.specs.View.{words};
+ghost use Rattle.judging.specs.Broken.{otherLengths, strayTasks, misreserved, brokenWho, Judged};
 use head::Head;
+use held::BatchSemaphore;
 use queue::Reservation;
 use queue::Waiters;
 use records::Request;
@@ -302,4 +304,66 @@ fn who_is_broken(h: Head, slots: &[u32], tasks: &[u32]) -> bool
         return true;
     }
     closed_is_broken(h.closed, waiters.len, reservation.made)
+}
+
+// A lent array of another length.
+fn lengths_differ(
+    slots: &[u32],
+    tasks: &[u32],
+    sizes: &[u32],
+    rows: &[u32],
+    last: &[u32],
+    makers: &[u32],
+    clocks: &[u32],
+    grants: &[u32],
+) -> bool
+    ensures { λ r. ⌜ r ≡ otherLengths (words (now (slots .entry)) (now (tasks .entry)) (now (sizes .entry)) (now (rows .entry)) (now (last .entry)) (now (makers .entry)) (now (clocks .entry))) (now (grants .entry)) ⌝ }
+{
+    if slots.len() != 320 {
+        return true;
+    }
+    if tasks.len() != 32 {
+        return true;
+    }
+    if sizes.len() != 64 {
+        return true;
+    }
+    if rows.len() != 1024 {
+        return true;
+    }
+    if last.len() != 16 {
+        return true;
+    }
+    if makers.len() != 512 {
+        return true;
+    }
+    if clocks.len() != 256 {
+        return true;
+    }
+    grants.len() != 96
+}
+
+// Whether what is handed in is broken.
+pub fn is_broken(
+    s: BatchSemaphore,
+    slots: &[u32],
+    tasks: &[u32],
+    sizes: &[u32],
+    rows: &[u32],
+    last: &[u32],
+    makers: &[u32],
+    clocks: &[u32],
+    grants: &[u32],
+) -> bool
+    ensures { λ r. ⌜ Judged s (words (now (slots .entry)) (now (tasks .entry)) (now (sizes .entry)) (now (rows .entry)) (now (last .entry)) (now (makers .entry)) (now (clocks .entry))) (now (grants .entry)) r ⌝ }
+{
+    if lengths_differ(slots, tasks, sizes, rows, last, makers, clocks, grants) {
+        return true;
+    }
+    let head = s.head;
+    let batches = s.batches;
+    if batches.is_broken(sizes, head.stock) {
+        return true;
+    }
+    who_is_broken(head, slots, tasks)
 }

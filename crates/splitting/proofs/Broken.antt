@@ -19,7 +19,6 @@ use Rattle.rules.specs.Broken.{anyOf, member, everySlot, reservedSlots, isBeyon
 use Rattle.rules.proofs.Bools.{clash, neither, _nor_, not-both, and-other}
 use Rattle.rules.proofs.Queues.{none-of, no-member, member-fails, slot-fails, no-slot}
 use Rattle.rules.proofs.Soundness.{Clauses, clauses, unbroken}
-use Rattle.splitting.specs.Plain as P
 use Rattle.splitting.specs.Plain.{Plain}
 use Rattle.splitting.specs.Times.{Times}
 use Rattle.splitting.specs.Split.{forget, forgetSlot, whole}

@@ -1,6 +1,5 @@
 use Prim.Native.Nat.{_+_, _*_, _-_, _≤_}
 use mathlib.Core.Path.{_≡_}
-use native.Mathlib.Omega.{arith}
 use borrow.Author.Needs.{needs}
 use Rattle.judging.specs.Weights.{weights, sumFrom, heaviest}
 use Rattle.judging.proofs.Weights.{sums-start, sums-more, sums-done}

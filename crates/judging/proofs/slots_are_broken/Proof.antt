@@ -1,6 +1,5 @@
 use mathlib.Core.Path.{refl}
 use Rattle.rules.proofs.Places.{unmap}
-use lib.ListN.{length}
 use Rattle.judging.proofs.Deciding.{none-seen, slots-judged}
 use borrow.Author.Needs.{needs}
 use Rattle.judging.proofs.slots_are_broken.Statement.{statement}
