@@ -27,7 +27,7 @@ pub none-given : Says Accepted []
 none-given = record { first = refl }
 
 -- ---- the actor's, then the act's
-first-after : (gs hs : List Ground) → first (gs ++ hs) ≡ orElse (first gs) (first hs)
+pub first-after : (gs hs : List Ground) → first (gs ++ hs) ≡ orElse (first gs) (first hs)
 first-after [] hs = refl
 first-after (g ∷ gs) hs = go (g .given) (first-after gs hs)
   where
