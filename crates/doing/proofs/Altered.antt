@@ -1,16 +1,16 @@
 -- A task or a slot altered, and nothing else: what is answered then.
 use Prim.Native.Nat.{ℕ, _<_}
 use native.Mathlib.Omega.{arith}
-use mathlib.Core.Path.{_≡_, refl, sym, ap, subst, _∙_}
+use mathlib.Core.Path.{_≡_, refl, ap, _∙_}
 use mathlib.Core.List.{List, []}
 use mathlib.Core.Option.{Option, none, some}
 use lib.ListN.{length, getD, set}
 use Rattle.rules.specs.declared.TaskId.{TaskId}
 use Rattle.rules.specs.declared.Ask.{Ask}
 use Rattle.rules.specs.Steps.{Answer}
-use Rattle.rules.specs.Steps.Answer.{done, made}
+use Rattle.rules.specs.Steps.Answer.{done}
 use Rattle.splitting.specs.Plain.{Plain, Task as TaskRule, Request as RequestRule, noTask, unpolled, withTasks, withSlots, alterTask}
-use Rattle.splitting.specs.Who.{quiet, lowestFree, make}
+use Rattle.splitting.specs.Who.{quiet}
 use Rattle.replies.specs.declared.Reply.{Reply}
 use Rattle.replies.specs.declared.Reply.the-variants.{Done, Made}
 use Rattle.replies.specs.Answers.{answerOf}
@@ -22,6 +22,7 @@ use Rattle.records.specs.View.{taskOf, seen}
 use Rattle.words.specs.View.{slotsOf, tasksOf, grantsOf, SlotsShow, TasksShow}
 use Rattle.head.specs.declared.Head.{Head}
 use Rattle.head.specs.View.{plainOf, Shaped, Shows, Answers}
+use Rattle.choosing.specs.Choice.{makeAt}
 use Rattle.doing.specs.Effects.{SlotsAnswer, TasksAnswer}
 
 pub no-grants : (g : List ℕ) → grantsOf 0 g ≡ []
@@ -80,16 +81,13 @@ module _ (h : Head) (ss ts : List ℕ) (s : Shaped h ss ts) where
       }
 
 -- ---- making
-pub made-so : (h : Head) (slots after : List ℕ) (t : TaskId) (a : Ask) (i : ℕ) (q : Request) → i ≡ lowestFree (slotsOf slots) → seen q ≡ some (unpolled a t)
+pub made-so : (h : Head) (slots after : List ℕ) (t : TaskId) (a : Ask) (i : ℕ) (q : Request) → seen q ≡ some (unpolled a t)
     → SlotsShow after slots (set (slotsOf slots) i (seen q)) → length after ≡ length slots
-    → SlotsAnswer (make t a) (record { reply = Made (record { 0 = i }); count = 0; head = h }) after h slots
-unfolding make
-made-so h slots after t a i q ei eq k n tasks grants s =
-    subst (λ (j : ℕ). Answers (record { reply = Made (record { 0 = i }); count = 0; head = h }) after tasks grants
-    (quiet (made (record { 0 = j })) (withSlots (set (slotsOf slots) j (some (unpolled a t))) (plainOf h slots tasks)))) ei
-    (quieted h after tasks grants (Made (record { 0 = i })) _
+    → SlotsAnswer (makeAt i t a) (record { reply = Made (record { 0 = i }); count = 0; head = h }) after h slots
+made-so h slots after t a i q eq k n tasks grants s =
+    quieted h after tasks grants (Made (record { 0 = i })) _
     (slots-so h slots tasks s after (set (slotsOf slots) i (some (unpolled a t)))
-    (record { view = k .view ∙ ap (λ (o : Option RequestRule). set (slotsOf slots) i o) eq; stand = k .stand }) n))
+    (record { view = k .view ∙ ap (λ (o : Option RequestRule). set (slotsOf slots) i o) eq; stand = k .stand }) n)
 
 -- ---- a task
 pub task-so : (h : Head) (tasks after : List ℕ) (t : TaskId) (f : TaskRule → TaskRule) (a b : Task) → taskOf a ≡ getD (tasksOf (h .tasks) tasks) (t .0) noTask

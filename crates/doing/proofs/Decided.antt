@@ -23,7 +23,8 @@ use Rattle.words.specs.View.{grantsOf}
 use Rattle.head.specs.declared.Head.{Head}
 use Rattle.head.specs.declared.Answered.{Answered}
 use Rattle.head.specs.View.{plainOf, Shaped, Shows, Answers}
-use Rattle.doing.specs.Effects.{SlotsAnswer, AnyGrants, pollTakes, queuesIn, MayPoll, pollBy}
+use Rattle.choosing.specs.Choice.{pollBy}
+use Rattle.doing.specs.Effects.{SlotsAnswer, AnyGrants, pollTakes, queuesIn, MayPoll}
 use Rattle.doing.proofs.Altered.{quieted}
 
 -- ---- a poll

@@ -3,3 +3,4 @@ pub mod Polls
 pub mod Allowing
 pub mod Released
 pub mod Decided
+pub mod Every

@@ -7,21 +7,24 @@ use lib.ListN.{length}
 use Rattle.rules.specs.declared.TaskId.{TaskId}
 use Rattle.rules.specs.declared.Slot.{Slot}
 use Rattle.rules.specs.declared.Taker.the-variants.{BySlot}
+use Rattle.rules.specs.declared.Direct.the-variants.{Take}
 use Rattle.rules.specs.declared.Polling.{Polling}
 use Rattle.rules.specs.declared.Polling.the-variants.{Holds, IsClosed, Stays, QueuesBack, QueuesFront, TakesReserved, Takes, Reserves}
 use Rattle.rules.specs.declared.Dropping.{Dropping}
 use Rattle.rules.specs.Sizes.{slotCount, largest}
-use Rattle.rules.specs.Polling.{takesIn, polled}
-use Rattle.rules.specs.Steps.{pollAnswer}
+use Rattle.rules.specs.Broken.{twice}
+use Rattle.rules.specs.Polling.{takesIn}
 use Rattle.rules.specs.Steps.Answer.{granted}
 use Rattle.rules.specs.Refusals.{returned}
-use Rattle.splitting.specs.Plain.{Plain, polledGranted, askedAt, alterRequest, _▷_}
-use Rattle.splitting.specs.Who.{Granting, Outcome}
+use Rattle.splitting.specs.Plain.{Plain, polledGranted, askedAt, alterRequest}
+use Rattle.splitting.specs.Who.{Outcome}
 use Rattle.splitting.specs.Who as W
 use Rattle.head.specs.declared.Head.{Head}
 use Rattle.head.specs.declared.Granted.{Granted}
 use Rattle.head.specs.declared.Answered.{Answered}
 use Rattle.head.specs.View.{plainOf, Shaped, Grants, Answers}
+use Rattle.choosing.specs.declared.Choice.{Choice}
+use Rattle.choosing.specs.declared.Choice.the-variants.{Makes, Polls, Tries, Releases, Drops, Closes, Sleeps, Finishes}
 
 -- on the slots: whatever the tasks and the grants' words
 abbrev pub SlotsAnswer : (Plain → Outcome) → Answered → List ℕ → Head → List ℕ → Type 0
@@ -71,9 +74,18 @@ pub record MayDrop (d : Dropping) (n : ℕ) (x : Slot) (s : Plain) : Type 0 wher
   pub count : n ≡ returned d (askedAt x s)
   pub fits : MayRelease n s
 
--- a poll that was decided, and a drop
-abbrev pub pollBy : Polling → TaskId → Slot → Plain → Outcome
-pollBy q t x s = record { answer = pollAnswer (polled q); grants = W.pollGrants q t x s; state = s ▷ W.pollWork q t x ▷ alterRequest x (W.pollMark (polled q) t) }
+-- what a choice asks of the state
+abbrev pub Asks : Choice → Plain → Type 0
+Asks (Makes i a) s = i < slotCount
+Asks (Polls x n q) s = MayPoll q n x s
+Asks (Tries n d) s = d ≡ Take → n ≤ s .stock
+Asks (Releases n) s = MayRelease n s
+Asks (Drops x n d) s = MayDrop d n x s
+Asks Closes s = Unit {0}
+Asks Sleeps s = Unit {0}
+Asks Finishes s = Unit {0}
 
-abbrev pub dropBy : Dropping → Slot → Plain → Granting
-dropBy d x s = let g = W.dropWork d x s in record { grants = g .grants; state = W.free x (g .state) }
+-- and that the queue, where it is scanned, names no slot twice
+pub record Able (c : Choice) (s : Plain) : Type 0 where
+  pub once : twice (s .queue) ≡ false
+  pub asks : Asks c s

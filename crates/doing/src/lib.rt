@@ -9,14 +9,16 @@ ghost use Rattle.rules.specs.Sizes.{slotCount, maxTasks};
 ghost use Rattle.rules.specs.Broken.{twice};
 ghost use Rattle.rules.specs.Steps.Answer.{done, pending};
 ghost use Rattle.splitting.specs.Plain.{withReservation, alterTask, alterRequest, slept, finished, polledPending, _▷_};
-ghost use Rattle.splitting.specs.Who.{taking, queueBack, queueFront, leave, wakeUnfair, reblock, lowestFree, make as makeOf, quiet as quietOf, tryBy, scanOrWake, release as releaseOf, dropWork, closing};
+ghost use Rattle.splitting.specs.Who.{taking, queueBack, queueFront, leave, wakeUnfair, reblock, quiet as quietOf, tryBy, scanOrWake, release as releaseOf, dropWork, closing};
 ghost use Rattle.replies.specs.declared.Reply.the-variants.{Done};
 ghost use Rattle.replies.specs.Answers.{answerOf};
 ghost use Rattle.queue.specs.View.{waitersOf};
 ghost use Rattle.records.specs.View.{marking};
-ghost use Rattle.words.specs.View.{requestWords, taskWords, slotsOf};
+ghost use Rattle.words.specs.View.{requestWords, taskWords};
 ghost use Rattle.head.specs.View.{plainOf, Shaped, Grants, Answers};
-ghost use Rattle.doing.specs.Effects.{SlotsAnswer, TasksAnswer, AnyGrants, pollTakes, GrantsPoll, Ungranted, MayRelease, MayPoll, MayDrop, pollBy, dropBy};
+ghost use Rattle.doing.specs.Effects.{SlotsAnswer, TasksAnswer, AnyGrants, pollTakes, GrantsPoll, Ungranted, MayRelease, MayPoll, MayDrop, Able};
+ghost use Rattle.choosing.specs.Choice.{makeAt, pollBy, dropBy, effectBy};
+use choosing::Choice;
 use head::Answered;
 use head::Granted;
 use head::Head;
@@ -33,12 +35,11 @@ use rules::TaskId;
 
 // ---- making a request; a task's sleep and its end
 
-// A request of the task, in the lowest free slot.
-pub fn make(h: Head, slots: &mut [u32], me: TaskId, ask: Ask) -> Answered
-    requires { ⌜ (length (now slots) ≡ slotCount * requestWords) × (lowestFree (slotsOf (now slots)) < slotCount) ⌝ }
-    ensures { λ r. ⌜ SlotsAnswer (makeOf me ask) r (now (slots .exit)) h (now (slots .entry)) ⌝ }
+// A request of the task, in the slot numbered i.
+pub fn make(h: Head, slots: &mut [u32], me: TaskId, i: usize, ask: Ask) -> Answered
+    requires { ⌜ (length (now slots) ≡ slotCount * requestWords) × (i < slotCount) ⌝ }
+    ensures { λ r. ⌜ SlotsAnswer (makeAt i me ask) r (now (slots .exit)) h (now (slots .entry)) ⌝ }
 {
-    let i = words::lowest_free(slots);
     let request = Request::new(ask, me);
     words::put_request(slots, i, request);
     let n = i as u8;
@@ -385,5 +386,41 @@ fn close(h: Head, slots: &mut [u32], tasks: &mut [u32]) -> Answered
         reply,
         count: 0,
         head: closed,
+    }
+}
+
+// ---- every step
+
+// The effect of what a step comes to.
+pub fn effect(
+    h: Head,
+    slots: &mut [u32],
+    tasks: &mut [u32],
+    grants: &mut [u32],
+    me: TaskId,
+    c: Choice,
+) -> Answered
+    requires { ⌜ (Shaped h (now slots) (now tasks)) × (length (now grants) ≡ slotCount * 3) × Able c (plainOf h (now slots) (now tasks)) ⌝ }
+    ensures { λ r. ⌜ Answers r (now (slots .exit)) (now (tasks .exit)) (now (grants .exit)) (effectBy me c (plainOf h (now (slots .entry)) (now (tasks .entry)))) ⌝ }
+{
+    match c {
+        Choice::Makes { slot, ask } => make(h, slots, me, slot, ask),
+        Choice::Polls {
+            slot,
+            asked,
+            polling,
+        } => poll_by(h, slots, tasks, grants, me, slot, asked, polling),
+        Choice::Tries { count, direct } => try_by(h, slots, tasks, grants, me, count, direct),
+        Choice::Releases(num_permits) => {
+            done_with(release(h, slots, tasks, grants, num_permits))
+        }
+        Choice::Drops {
+            slot,
+            back,
+            dropping,
+        } => done_with(drop_request(h, slots, tasks, grants, slot, back, dropping)),
+        Choice::Closes => close(h, slots, tasks),
+        Choice::Sleeps => sleep(h, tasks, me),
+        Choice::Finishes => finish(h, tasks, me),
     }
 }

@@ -117,7 +117,7 @@ pub sound-part : (p : Plain) (w : Times) → Sound (whole p w) → SoundPlain p
 sound-part p w h = subst SoundPlain (forget-whole p w) (sound-forgets (whole p w) h)
 
 -- and the way back: with batches not set up, nothing more is asked
-forget-lift : (p : Plain) → forget (lift p) ≡ p
+pub forget-lift : (p : Plain) → forget (lift p) ≡ p
 unfolding lift
 forget-lift p = forget-whole p _
 

@@ -1,11 +1,8 @@
--- The slot is the lowest free one.
+-- Only the slot changes.
 use Rattle.doing.proofs.Altered.{made-so}
 use borrow.Author.Needs.{needs}
 use Rattle.doing.proofs.make.Statement.{statement}
 use Rattle.doing.proofs.make.Tie as tie
-
-lowest-free-requires : tie.Need-lowest-free-requires
-lowest-free-requires c κs = search needs
 
 new-requires : tie.Need-new-requires
 new-requires c κs = search needs
@@ -23,6 +20,4 @@ returns : tie.Need-returns
 returns c = search (made-so, needs)
 
 pub make-spec : {M : Type 1} → statement M
-make-spec =
-    tie.close
-    (tie.spec lowest-free-requires new-requires put-request-requires cast-n same-length returns)
+make-spec = tie.close (tie.spec new-requires put-request-requires cast-n same-length returns)
