@@ -1,13 +1,12 @@
 -- A task or a slot altered, and nothing else: what is answered then.
-use Prim.Native.Nat.{ℕ, _<_}
+use Prim.Native.Nat.{ℕ}
 use native.Mathlib.Omega.{arith}
 use mathlib.Core.Path.{_≡_, refl, ap, _∙_}
 use mathlib.Core.List.{List, []}
-use mathlib.Core.Option.{Option, none, some}
+use mathlib.Core.Option.{Option, some}
 use lib.ListN.{length, getD, set}
 use Rattle.rules.specs.declared.TaskId.{TaskId}
 use Rattle.rules.specs.declared.Ask.{Ask}
-use Rattle.rules.specs.Steps.{Answer}
 use Rattle.rules.specs.Steps.Answer.{done}
 use Rattle.splitting.specs.Plain.{Plain, Task as TaskRule, Request as RequestRule, noTask, unpolled, withTasks, withSlots, alterTask}
 use Rattle.splitting.specs.Who.{quiet}

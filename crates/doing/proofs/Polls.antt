@@ -1,7 +1,7 @@
 -- A poll put together from its parts.
-use Prim.Native.Nat.{ℕ, _+_, _-_, _<_}
+use Prim.Native.Nat.{ℕ, _+_, _-_}
 use native.Mathlib.Omega.{arith}
-use mathlib.Core.Path.{_≡_, refl, sym, ap, subst, _∙_}
+use mathlib.Core.Path.{_≡_, refl, ap, subst, _∙_}
 use mathlib.Core.Bool.{Bool, cond}
 use mathlib.Core.List.{List, [], _∷_, _++_}
 use mathlib.Core.Option.{Option, none, some}
@@ -14,12 +14,12 @@ use Rattle.rules.specs.Steps.Answer.{pending}
 use Rattle.splitting.specs.Plain.{Plain, withReservation, alterRequest, polledPending, _▷_}
 use Rattle.splitting.specs.Who.{taking, queueBack, queueFront, leave, wakeUnfair, reblock, quiet}
 use Rattle.replies.specs.declared.Reply.{Reply}
-use Rattle.replies.specs.declared.Reply.the-variants.{Granted, Pending}
+use Rattle.replies.specs.declared.Reply.the-variants.{Granted}
 use Rattle.replies.specs.Answers.{answerOf}
 use Rattle.queue.specs.declared.Reservation.{Reservation}
 use Rattle.queue.specs.View.{reservationOf}
 use Rattle.records.specs.declared.Marking.{Marking}
-use Rattle.records.specs.declared.Marking.the-variants.{PollsGranted, PollsPending}
+use Rattle.records.specs.declared.Marking.the-variants.{PollsGranted}
 use Rattle.records.specs.View.{marking}
 use Rattle.words.specs.View.{slotsOf, altered, grantsOf, SlotsShow}
 use Rattle.head.specs.declared.Head.{Head}

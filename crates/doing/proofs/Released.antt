@@ -1,10 +1,10 @@
 -- A release and a drop put together from their parts.
-use Prim.Native.Nat.{ℕ, _+_, _≤_, _<_}
+use Prim.Native.Nat.{ℕ, _+_}
 use native.Mathlib.Omega.{arith}
 use mathlib.Core.Path.{_≡_, refl, sym, ap, subst, _∙_}
 use mathlib.Core.Bool.{Bool, true, false, cond}
 use mathlib.Core.List.{List}
-use mathlib.Core.Option.{Option, none}
+use mathlib.Core.Option.{none}
 use borrow.Author.Tests.{eq-eqb, ne-eqb}
 use lib.Dec.{eqb}
 use lib.ListN.{length, set}
@@ -21,7 +21,7 @@ use Rattle.head.specs.declared.Head.{Head}
 use Rattle.head.specs.declared.Granted.{Granted}
 use Rattle.head.specs.declared.Answered.{Answered}
 use Rattle.head.specs.View.{plainOf, Shaped, Shows, Grants, Answers}
-use Rattle.doing.specs.Effects.{AnyGrants, Ungranted, MayRelease, MayDrop}
+use Rattle.doing.specs.Effects.{AnyGrants, Ungranted, MayDrop}
 use Rattle.doing.proofs.Altered.{no-grants, quieted, slots-so}
 
 -- nothing granted on the way

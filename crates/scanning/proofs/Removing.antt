@@ -23,7 +23,7 @@ use Rattle.records.specs.View.{Stands}
 use Rattle.words.specs.View.{requestWords}
 use Rattle.head.specs.declared.Head.{Head}
 use Rattle.head.specs.declared.Granted.{Granted}
-use Rattle.head.specs.View.{plainOf, Shaped, Shows, Grants}
+use Rattle.head.specs.View.{plainOf, Shaped, Grants}
 use Rattle.scanning.specs.View.{AnyTasks, frontAs}
 use Rattle.scanning.proofs.Scanning.{turn-within, no-grants}
 

@@ -24,7 +24,7 @@ use Rattle.queue.specs.View.{waitersOf, reservationOf, removeAt, Holds}
 use Rattle.records.specs.declared.Request.{Request}
 use Rattle.records.specs.declared.Marking.{Marking}
 use Rattle.records.specs.declared.Marking.the-variants.{Joins, Leaves as LeavesQueue, IsGranted}
-use Rattle.records.specs.View.{requestOf, Stands, marking}
+use Rattle.records.specs.View.{Stands, marking}
 use Rattle.words.specs.View.{slotsOf, tasksOf, altered, SlotsShow, TasksShow}
 use Rattle.head.specs.declared.Head.{Head}
 use Rattle.head.specs.View.{plainOf, Shaped, Shows}

@@ -1,10 +1,9 @@
 -- A sound state's plain part is sound, and a state is sound whose plain part and permits are; what an accepted step keeps.
-use Prim.Native.Nat.{ℕ, _≤_, _<_}
+use Prim.Native.Nat.{ℕ}
 use native.Mathlib.Omega.{arith}
 use mathlib.Core.Path.{_≡_, sym, ap, subst, _∙_}
-use mathlib.Core.Bool.{true, false}
-use mathlib.Core.List.{List}
-use mathlib.Core.Option.{Option, none, some}
+use mathlib.Core.Bool.{false}
+use mathlib.Core.Option.{none}
 use lib.ListN.{length, length-map}
 use Rattle.rules.specs.declared.TaskId.{TaskId}
 use Rattle.rules.specs.declared.Slot.{Slot}

@@ -1,6 +1,5 @@
 -- One law for each need. Four of them are past what `search` looks into, and have their facts named.
 use Prim.Native.Nat.{_-_}
-use native.Mathlib.Omega.{arith}
 use borrow.Author.Needs.{needs}
 use lib.ListN.{length}
 use Rattle.queue.specs.View.{waitersOf}
