@@ -21,7 +21,7 @@ use queue::Reservation;
 use queue::Waiters;
 use records::Request;
 
-// ---- a slot's words
+// ---- a slot's words, from b on: used, asked, least, kind, reserving, task, queued, holding, completed, polled
 // A reserving request that refusal 7 would meet.
 fn bad_reserving(least: u32, asked: u32) -> bool
     ensures { λ r. ⌜ r ≡ badReserving least asked ⌝ }
@@ -104,8 +104,9 @@ fn request_is_wrong(slots: &[u32], b: usize, named: bool, tasks: u32, fair: bool
     other_is_wrong(slots, b)
 }
 
-// ---- what the slots weigh
-// A word of use that is neither 0 nor 1 weighs more than a queue can be long, as a wrong request does.
+// ---- what the slots weigh: together as much as the queue is long, exactly where nothing is wrong
+// Free, nothing; a request, one where the queue names it, and else nothing; a wrong one, and a word of use that is no mark, more than a queue
+// can be long.
 fn slot_weight(slots: &[u32], k: usize, named: bool, tasks: u32, fair: bool) -> usize
     requires { ⌜ (k < slotCount) × (length (now slots) ≡ slotCount * requestWords) ⌝ }
     ensures { λ r. ⌜ Weighs r (weightOf tasks fair named (wordsAt (now (slots .entry)) (k * requestWords))) heaviest ⌝ }
@@ -124,7 +125,7 @@ fn slot_weight(slots: &[u32], k: usize, named: bool, tasks: u32, fair: bool) -> 
     0
 }
 
-// Whether one of four slots is in use: four free ones weigh nothing.
+// Whether one of four slots is in use: most are free, and four free ones weigh nothing.
 fn any_used(slots: &[u32], k: usize) -> bool
     requires { ⌜ (k + 4 ≤ slotCount) × (length (now slots) ≡ slotCount * requestWords) ⌝ }
     ensures { λ r. ⌜ (r ≡ false → (n : ℕ) (fair : Bool) (seen : List Bool) → sumFrom (weights n fair seen (now (slots .entry))) 4 k ≡ 0) ⌝ }
@@ -183,7 +184,8 @@ fn slots_weight(slots: &[u32], seen: &[bool], tasks: u32, fair: bool) -> usize
     sum
 }
 
-// Each slot that the queue names is marked.
+// Each slot that the queue names is marked. Its number is a byte, so there is a mark for every number: one that names no slot is missing in the
+// weight.
 fn mark_named(seen: &mut [bool], waiters: Waiters)
     requires { ⌜ (waiters .len ≤ slotCount) × (length (now seen) ≡ 256) × ((k : ℕ) → getD (now seen) k false ≡ false) ⌝ }
     ensures { λ _. ⌜ Marks (now (seen .exit)) (waitersOf waiters) ⌝ }
@@ -280,7 +282,7 @@ fn closed_is_broken(closed: bool, waiting: u32, reserved: bool) -> bool
     reserved
 }
 
-// All but the batches.
+// All but the lengths and the batches.
 fn who_is_broken(h: Head, slots: &[u32], tasks: &[u32]) -> bool
     requires { ⌜ (length (now slots) ≡ slotCount * requestWords) × (length (now tasks) ≡ maxTasks * taskWords) ⌝ }
     ensures { λ r. ⌜ r ≡ brokenWho h (now (slots .entry)) (now (tasks .entry)) ⌝ }
