@@ -1,6 +1,6 @@
 -- What a step comes to, and its effect by that: the rules of a step in two parts.
 use Prim.Native.Nat.{ℕ, _-_}
-use mathlib.Core.Bool.{Bool, true, not, _&&_, _||_}
+use mathlib.Core.Bool.{Bool, true, false, not, _&&_, _||_}
 use mathlib.Core.List.{List, [], _∷_}
 use mathlib.Core.Option.{Option, none, some, Option·getD}
 use lib.ListN.{getD, set}
@@ -9,8 +9,12 @@ use Rattle.rules.specs.declared.Slot.{Slot}
 use Rattle.rules.specs.declared.Ask.{Ask}
 use Rattle.rules.specs.declared.Priority.{Priority}
 use Rattle.rules.specs.declared.Priority.the-variants.{Back, Bypassable, Front}
+use Rattle.rules.specs.declared.Direct.{Direct}
+use Rattle.rules.specs.declared.Direct.the-variants.{Shut, NoPermits, Take}
 use Rattle.rules.specs.declared.Polling.{Polling}
+use Rattle.rules.specs.declared.Polling.the-variants.{Holds, IsClosed, Stays, QueuesBack, QueuesFront, TakesReserved, Takes, Reserves}
 use Rattle.rules.specs.declared.Dropping.{Dropping}
+use Rattle.rules.specs.declared.Dropping.the-variants.{Leaving, Unreserving, Returning, Nothing}
 use Rattle.rules.specs.declared.Act.{Act}
 use Rattle.rules.specs.declared.Act.the-variants.{Acquire, AcquireBypassable, AcquireReserving, Upgrade, Poll, Try, TryUpgrade, Release, Drop, Close, Sleep, Finish}
 use Rattle.rules.specs.Request.{plainAsk, reservingAsk, isBypassable, isFront}
@@ -66,3 +70,35 @@ effectBy t (Drops x n d) p = W.doing (dropBy d x p)
 effectBy t Closes p = W.quiet done (W.closing p)
 effectBy t Sleeps p = W.quiet done (alterTask t slept p)
 effectBy t Finishes p = W.quiet done (alterTask t finished p)
+
+-- Which steps move permits, the queue or the reservation. The others change words only: a request made, marks, a slot freed, a task.
+abbrev pub pollMoves : Polling → Bool
+pollMoves Holds = false
+pollMoves IsClosed = false
+pollMoves Stays = false
+pollMoves QueuesBack = true
+pollMoves QueuesFront = true
+pollMoves TakesReserved = true
+pollMoves Takes = true
+pollMoves Reserves = true
+
+abbrev pub tryMoves : Direct → Bool
+tryMoves Shut = false
+tryMoves NoPermits = false
+tryMoves Take = true
+
+abbrev pub dropMoves : Dropping → Bool
+dropMoves Leaving = true
+dropMoves Unreserving = true
+dropMoves Returning = true
+dropMoves Nothing = false
+
+abbrev pub movesIn : Choice → Bool
+movesIn (Makes i a) = false
+movesIn (Polls x n q) = pollMoves q
+movesIn (Tries n d) = tryMoves d
+movesIn (Releases n) = true
+movesIn (Drops x n d) = dropMoves d
+movesIn Closes = true
+movesIn Sleeps = false
+movesIn Finishes = false
