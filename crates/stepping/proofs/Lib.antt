@@ -1,0 +1,4 @@
+pub mod Composed
+pub mod Checked
+pub mod Stepping
+pub mod Accepted
