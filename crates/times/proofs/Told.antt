@@ -1,7 +1,7 @@
 -- What `times_step` counts on, of a step that is not refused: from the refusals of the times, and from what is decided without clocks.
 use Prim.Native.Nat.{ℕ, _≤_, _<_}
 use native.Mathlib.Omega.{arith}
-use mathlib.Core.Path.{_≡_, refl, sym}
+use mathlib.Core.Path.{_≡_, refl, sym, ap}
 use mathlib.Core.Bool.{Bool, true, false, cond, _&&_, false≢true}
 use mathlib.Core.List.{List, [], _∷_}
 use mathlib.Core.Option.{none, Option·none-ne-some}
@@ -32,7 +32,7 @@ use Rattle.batches.specs.declared.Batches.{Batches}
 use Rattle.batches.specs.View.{standsIn}
 use Rattle.times.specs.declared.Change.{Change}
 use Rattle.times.specs.declared.Change.the-variants.{Makes, Takes, Tries, Gives, Stays}
-use Rattle.times.specs.View.{keptOf, refusalKept, lastTick, changeOf, isFailed, Able}
+use Rattle.times.specs.View.{keptOf, refusalKept, lastTick, changeOf, isFailed, Able, AbleAtRest}
 
 -- the refusals are those of the rules' times
 pub refusal-kept : (a : Step) (p : Plain) (k : Known) (w : Kept) → a .actor .0 < length (p .tasks) → refusalKept (a .actor) k w ≡ timesRefusal a k (timesKept p w)
@@ -103,3 +103,43 @@ able-accepted Tries t o n k b sizes rows last makers clocks l few r c = (c .0, r
 able-accepted Gives t o n k b sizes rows last makers clocks l few r c =
     (few, λ h. record { task = l; entry = has-tick t k (keptOf b sizes rows last makers clocks) r (c h) }, has-room t k (keptOf b sizes rows last makers clocks) r)
 able-accepted Stays t o n k b sizes rows last makers clocks l few r c = tt
+
+-- Of a step without grants: a try among them failed, and its actor ticks.
+abbrev pub Ungranted : Change → Answer → Bool → Type 0
+Ungranted Makes o f = Unit {0}
+Ungranted Takes o f = Unit {0}
+Ungranted Tries o f = (f ≡ true) × (isFailed o ≡ true)
+Ungranted Gives o f = Unit {0}
+Ungranted Stays o f = Unit {0}
+
+failed-try : (d : Direct) (t : TaskId) (n : ℕ) (p : Plain) → tryBy d t n p .grants ≡ [] → isFailed (tryBy d t n p .answer) ≡ true
+unfolding tryBy
+failed-try Shut t n p e = refl
+failed-try NoPermits t n p e = refl
+failed-try Take t n p e = absurd (let z : _≡_ {A = ℕ} 1 0 = ap length e in omega arith)
+
+ungranted-of : (t : TaskId) (a : Act) (p : Plain) → effectOf t a p .grants ≡ [] → Ungranted (changeOf a) (effectOf t a p .answer) (ticksIn a p)
+unfolding effectOf
+ungranted-of t (Acquire n) p e = tt
+ungranted-of t (AcquireBypassable n) p e = tt
+ungranted-of t (AcquireReserving least n) p e = tt
+ungranted-of t (Upgrade held wanted) p e = tt
+ungranted-of t (Poll x) p e = tt
+ungranted-of t (Try n) p e = (refl, failed-try (direct Back n p) t n p e)
+ungranted-of t (TryUpgrade held wanted) p e = (refl, failed-try (direct Front (wanted - held) p) t (wanted - held) p e)
+ungranted-of t (Release n) p e = tt
+ungranted-of t (Drop x) p e = tt
+ungranted-of t Close p e = tt
+ungranted-of t Sleep p e = tt
+ungranted-of t Finish p e = tt
+
+pub ungranted : (a : Step) (p : Plain) → effect a p .grants ≡ [] → Ungranted (changeOf (a .act)) (effect a p .answer) (ticksIn (a .act) p)
+ungranted a p e = ungranted-of (a .actor) (a .act) p e
+
+pub able-at-rest : (d : Change) (t : TaskId) (o : Answer) (k : Known) (b : Batches) (sizes rows last makers clocks : List ℕ) → t .0 < maxTasks
+    → refusalKept t k (keptOf b sizes rows last makers clocks) ≡ none → Ungranted d o (k .ticks) → AbleAtRest d t o clocks
+able-at-rest Makes t o k b sizes rows last makers clocks l r c = tt
+able-at-rest Takes t o k b sizes rows last makers clocks l r c = tt
+able-at-rest Tries t o k b sizes rows last makers clocks l r c = (record { task = l; entry = has-tick t k (keptOf b sizes rows last makers clocks) r (c .0) }, c .1)
+able-at-rest Gives t o k b sizes rows last makers clocks l r c = tt
+able-at-rest Stays t o k b sizes rows last makers clocks l r c = tt

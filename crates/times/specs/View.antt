@@ -8,12 +8,13 @@ use lib.Dec.{leb, ltb}
 use lib.ListN.{getD, set}
 use Rattle.rules.specs.declared.TaskId.{TaskId}
 use Rattle.rules.specs.declared.Grant.{Grant}
+use Rattle.rules.specs.declared.Step.{Step}
 use Rattle.rules.specs.Sizes.{width, maxTasks, slotCount, largest}
 use Rattle.rules.specs.Clock.{Clock, tick, empty}
 use Rattle.rules.specs.Refusals.{_if_, first, full}
 use Rattle.rules.specs.Steps.{Answer}
 use Rattle.rules.specs.Steps.Answer.{done, granted, pending, closed, none-left, made, refused}
-use Rattle.splitting.specs.Kept.{Kept, clockAt, taking, store, takeEach, tried, grantEach, release}
+use Rattle.splitting.specs.Kept.{Kept, clockAt, taking, store, takeEach, tried, grantEach, release, keptStep}
 use Rattle.rules.specs.State.{Batch}
 use Rattle.splitting.specs.Times.{Known}
 use Rattle.tables.specs.Table.{row, table}
@@ -119,3 +120,17 @@ Able Takes t a count back clocks bs = (count ≤ 1) × (0 < count → MayTick t 
 Able Tries t a count back clocks bs = (count ≤ 1) × (MayTick t clocks) × (isFailed a ≡ true → count ≡ 0)
 Able Gives t a count back clocks bs = (count ≤ slotCount) × (0 < back → MayTick t clocks) × (0 < back → full bs ≡ false)
 Able Stays t a count back clocks bs = Unit {0}
+
+-- The same of a step that leaves permits, queue and reservation as they are: a try among them failed, and its actor ticks.
+abbrev pub AbleAtRest : Change → TaskId → Answer → List ℕ → Type 0
+AbleAtRest Makes t a clocks = Unit {0}
+AbleAtRest Takes t a clocks = Unit {0}
+AbleAtRest Tries t a clocks = (MayTick t clocks) × (isFailed a ≡ true)
+AbleAtRest Gives t a clocks = Unit {0}
+AbleAtRest Stays t a clocks = Unit {0}
+
+-- what it does to the times, whatever the batches: nothing is granted, and nothing comes back
+abbrev pub RestsInTimes : Step → Answer → List ℕ → List ℕ → List ℕ → List ℕ → List ℕ → Type 0
+RestsInTimes s a last makers′ clocks′ makers clocks =
+    (b : Batches) (sizes rows : List ℕ) (k : ℕ) (f : Bool)
+    → keptOf b sizes rows last makers′ clocks′ ≡ keptStep s a [] (record { stock = k; back = 0; ticks = f }) (keptOf b sizes rows last makers clocks)

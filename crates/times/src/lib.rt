@@ -15,7 +15,7 @@ ghost use Rattle.splitting.specs.Kept.{takeQueued, takeEach, grantEach, failTry
 ghost use Rattle.batches.specs.View.{Lent, WellFormed, standsIn};
 ghost use Rattle.batches.specs.declared.Batches.{Batches};
 ghost use Rattle.words.specs.View.{grantOf, grantsOf};
-ghost use Rattle.times.specs.View.{Able, takenAs, slotMade, changeOf, isFailed, refusalKept, clocksAt, clockIn, keptOf, Shows, MayTick, Ticked};
+ghost use Rattle.times.specs.View.{Able, takenAs, slotMade, changeOf, isFailed, refusalKept, clocksAt, clockIn, keptOf, Shows, MayTick, Ticked, AbleAtRest, RestsInTimes};
 use batches::Batches;
 use clock::VectorClock;
 use replies::Check;
@@ -457,5 +457,22 @@ pub fn times_step(
         Change::Stays => {
             return b;
         }
+    }
+}
+
+// Whatever a step that is not refused does to the times where it leaves permits, queue and reservation as they are.
+pub fn rest_times(last: &[u32], makers: &mut [u32], clocks: &mut [u32], step: Step, reply: Reply)
+    requires { ⌜ (length (now last) ≡ width) × (length (now makers) ≡ slotCount * width) × (length (now clocks) ≡ maxTasks * width) × (AbleAtRest (changeOf (step .act)) (step .actor) (answerOf reply) (now clocks)) ⌝ }
+    ensures { λ _. ⌜ RestsInTimes step (answerOf reply) (now (last .entry)) (now (makers .exit)) (now (clocks .exit)) (now (makers .entry)) (now (clocks .entry)) ⌝ }
+{
+    let me = step.actor;
+    let act = step.act;
+    let change = change_of(act);
+    match change {
+        Change::Makes => make(makers, clocks, reply, me),
+        Change::Takes => {}
+        Change::Tries => fail_try(last, clocks, me),
+        Change::Gives => {}
+        Change::Stays => {}
     }
 }
