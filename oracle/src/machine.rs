@@ -7,8 +7,8 @@ use crate::observed;
 use crate::refusals::refusal;
 use crate::runtime::execution::ExecutionState;
 use crate::runtime::task::clock::VectorClock;
-use crate::runtime::task::{self, TaskId, TaskState};
-use crate::state::{Clock, Request, Run, State, Task};
+use crate::runtime::task::TaskId;
+use crate::state::{widened, Request, State, Task};
 use crate::step::{Act, Answer, Fresh, Outcome, Step, SLOTS};
 use std::future::Future;
 use std::pin::Pin;
@@ -135,7 +135,7 @@ impl Machine<'_> {
     }
 
     pub fn state(&self) -> State {
-        let tasks: Vec<Task> = ExecutionState::with(|state| state.tasks().iter().map(task_reading).collect());
+        let tasks: Vec<Task> = ExecutionState::with(|state| state.tasks().iter().map(Task::read).collect());
         let wide = |clock: &VectorClock| widened(clock, tasks.len());
         let batch = |(size, clock): &(usize, VectorClock)| (*size, wide(clock));
 
@@ -161,7 +161,7 @@ impl Machine<'_> {
                 .slots
                 .iter()
                 .zip(&requests)
-                .map(|(slot, reading)| Some(request(slot.as_ref()?.maker, reading.as_ref()?, tasks.len())))
+                .map(|(slot, reading)| Some(Request::read(reading.as_ref()?, slot.as_ref()?.maker, tasks.len())))
                 .collect(),
             tasks,
         }
@@ -184,47 +184,6 @@ impl Drop for Machine<'_> {
             std::mem::forget(slot.take());
         }
     }
-}
-
-/// A task as the stand-ins have it.
-pub fn task_reading(task: &task::Task) -> Task {
-    Task {
-        run: match task.state() {
-            TaskState::Runnable => Run::Runnable,
-            TaskState::Blocked { .. } => Run::Blocked,
-            TaskState::Sleeping => Run::Sleeping,
-            TaskState::Finished => Run::Finished,
-        },
-        woken: task.woken(),
-        clock: task.clock.to_vec(),
-    }
-}
-
-/// A request as the Rust has it, with its maker, whom the Rust forgets.
-fn request(maker: usize, reading: &RequestReading, tasks: usize) -> Request {
-    Request {
-        asked: reading.asked,
-        least: reading.least,
-        kind: reading.kind,
-        reserving: reading.reserving,
-        clock: widened(&reading.clock, tasks),
-        task: reading.waiting_task.map_or(maker, usize::from),
-        queued: reading.queued,
-        holding: reading.holding,
-        completed: reading.completed,
-        polled: reading.polled,
-    }
-}
-
-/// The Rust's clocks grow when they meet longer ones; the rules' are all as wide as there are tasks.
-fn widened(clock: &VectorClock, tasks: usize) -> Clock {
-    assert!(
-        clock.len() <= tasks,
-        "no clock has an entry for a task that is not there"
-    );
-    let mut entries = clock.to_vec();
-    entries.resize(tasks, 0);
-    entries
 }
 
 fn answer_of_try(result: Result<(), TryAcquireError>) -> Answer {

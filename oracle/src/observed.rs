@@ -2,7 +2,6 @@
 //! against the states before and after.
 
 use crate::events::{Event, Place};
-use crate::machine::task_reading;
 use crate::state::{State, Task};
 use crate::step::{Act, Grant, Points, Step, Taker};
 
@@ -105,7 +104,7 @@ pub fn points(before: &State, step: &Step, events: &[Event]) -> Points {
     };
     for (i, event) in events.iter().enumerate() {
         if let Event::Point { tasks, .. } = event {
-            let tasks: Vec<Task> = tasks.iter().map(task_reading).collect();
+            let tasks: Vec<Task> = tasks.iter().map(Task::read).collect();
             assert!(i == 0 && tasks == before.tasks, "a point comes before the step");
         }
     }

@@ -1,6 +1,8 @@
-//! The whole state, as document 01 lists it: plain data, read out of the Rust by the machine.
+//! The whole state, as document 01 lists it: plain data, and how a task and a request are read out of the Rust.
 
 pub use crate::future::batch_semaphore::reading::Kind;
+use crate::future::batch_semaphore::reading::RequestReading;
+use crate::runtime::task::{self, clock::VectorClock, TaskState};
 
 /// As many entries as there are tasks.
 pub type Clock = Vec<u32>;
@@ -47,6 +49,51 @@ pub struct Request {
     pub holding: bool,
     pub completed: bool,
     pub polled: bool,
+}
+
+impl Task {
+    /// A task as the stand-ins have it.
+    pub fn read(task: &task::Task) -> Self {
+        Self {
+            run: match task.state() {
+                TaskState::Runnable => Run::Runnable,
+                TaskState::Blocked { .. } => Run::Blocked,
+                TaskState::Sleeping => Run::Sleeping,
+                TaskState::Finished => Run::Finished,
+            },
+            woken: task.woken(),
+            clock: task.clock.to_vec(),
+        }
+    }
+}
+
+impl Request {
+    /// A request as the Rust has it, with its maker, whom the Rust forgets, among so many tasks.
+    pub fn read(reading: &RequestReading, maker: usize, tasks: usize) -> Self {
+        Self {
+            asked: reading.asked,
+            least: reading.least,
+            kind: reading.kind,
+            reserving: reading.reserving,
+            clock: widened(&reading.clock, tasks),
+            task: reading.waiting_task.map_or(maker, usize::from),
+            queued: reading.queued,
+            holding: reading.holding,
+            completed: reading.completed,
+            polled: reading.polled,
+        }
+    }
+}
+
+/// The Rust's clocks grow when they meet longer ones; the rules' are all as wide as there are tasks.
+pub fn widened(clock: &VectorClock, tasks: usize) -> Clock {
+    assert!(
+        clock.len() <= tasks,
+        "no clock has an entry for a task that is not there"
+    );
+    let mut entries = clock.to_vec();
+    entries.resize(tasks, 0);
+    entries
 }
 
 impl State {
