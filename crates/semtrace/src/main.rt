@@ -1,22 +1,20 @@
-// Document 01's script program. All that it prints is what `trace::run` writes into the buffer; no contract can say what is read or
+// Document 01's script program. All that it prints is what `running::run` writes into the buffer; no contract can say what is read or
 // written, so that `main` has none: it reads, runs and writes.
 use libc::STDIN_FILENO;
 use libc::STDOUT_FILENO;
 
-// One byte more than is run tells a script that is too long.
-fn input() -> [u8; 65537] {
-    [0u8; 65537]
+fn input() -> [u8; running::INPUT] {
+    [0u8; running::INPUT]
 }
 
-// 45 bytes for each byte read are enough.
-fn output() -> [u8; 2949165] {
-    [0u8; 2949165]
+fn output() -> [u8; running::OUTPUT] {
+    [0u8; running::OUTPUT]
 }
 
 fn main() {
     let mut script = input();
     let n = io::read_full(STDIN_FILENO, &mut script);
     let mut out = output();
-    let k = trace::run(&script[..n], &mut out);
+    let k = running::run(&script[..n], &mut out);
     io::write_all(STDOUT_FILENO, &out[..k]);
 }

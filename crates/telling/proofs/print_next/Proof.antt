@@ -1,0 +1,24 @@
+-- `telling::print_next`: a comma, then the taker.
+use borrow.Author.Needs.{needs}
+use Rattle.telling.proofs.Chain.{printed-next}
+use Rattle.telling.proofs.print_next.Statement.{statement}
+use Rattle.telling.proofs.print_next.Tie as tie
+
+slice-aggregate-put : tie.Need-slice-aggregate-put
+slice-aggregate-put c = search needs
+
+put-requires : tie.Need-put-requires
+put-requires c κs = search needs
+
+print-taker-requires : tie.Need-print-taker-requires
+print-taker-requires c κs = search needs
+
+same-length : tie.Need-same-length
+same-length c = search needs
+
+returns : tie.Need-returns
+returns c = search (printed-next, needs)
+
+pub print-next-spec : {M : Type 1} → statement M
+print-next-spec =
+    tie.close (tie.spec slice-aggregate-put put-requires print-taker-requires same-length returns)

@@ -1,0 +1,38 @@
+-- `telling::print_taker`: the slot, or `t`.
+use borrow.Author.Needs.{needs}
+use Rattle.telling.proofs.Chain.{room-small, printed-slot, printed-try}
+use Rattle.telling.proofs.print_taker.Statement.{statement}
+use Rattle.telling.proofs.print_taker.Tie as tie
+
+print-number-requires : tie.Need-print-number-requires
+print-number-requires c κs = search (room-small, needs)
+
+same-length : tie.Need-same-length
+same-length c = search needs
+
+returns : tie.Need-returns
+returns c = search (printed-slot, needs)
+
+slice-aggregate-put : tie.Need-slice-aggregate-put
+slice-aggregate-put c = search needs
+
+put-requires : tie.Need-put-requires
+put-requires c κs = search needs
+
+same-length-2 : tie.Need-same-length-2
+same-length-2 c = search needs
+
+returns-2 : tie.Need-returns-2
+returns-2 c = search (printed-try, needs)
+
+pub print-taker-spec : {M : Type 1} → statement M
+print-taker-spec =
+    tie.close
+    (tie.spec
+    print-number-requires
+    same-length
+    returns
+    slice-aggregate-put
+    put-requires
+    same-length-2
+    returns-2)
