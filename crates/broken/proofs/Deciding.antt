@@ -1,26 +1,41 @@
--- What the whole test comes to, once the counts are within their arrays: the parts, in the order in which the code looks.
-use Prim.Native.Nat.{ℕ, _≤_, _<_}
+-- The other parts of row 14: each answer, from the tests that led to it.
+use Prim.Native.Nat.{ℕ, zero, suc, _≤_, _<_}
 use native.Mathlib.Omega.{arith}
-use mathlib.Core.Path.{_≡_, refl, sym, _∙_}
+use mathlib.Core.Path.{_≡_, refl, sym, ap, _∙_}
 use mathlib.Core.Bool.{Bool, true, false, cond, not, _&&_, _||_}
-use mathlib.Core.List.{List, [], _∷_}
+use mathlib.Core.List.{List}
 use mathlib.Core.Option.{Option, none, some}
-use borrow.Author.Tests.{lt-ltb, le-ltb, not-true, not-false}
-use lib.Dec.{ltb}
-use lib.ListN.{length, take, length-map, length-take}
-use Rattle.rules.specs.declared.Slot.{Slot}
-use Rattle.rules.specs.Request.{Request}
-use Rattle.rules.specs.State.{isSome, strict}
-use Rattle.rules.specs.Broken.{anyOf, twice, everySlot, reservedSlots, isBeyond, nonEmpty}
-use Rattle.permits.specs.Broken.{headBeyond, brokenPermits}
-use Rattle.task.specs.View.{tasksOf}
-use Rattle.waiters.specs.View.{waitersOf, reservationOf}
-use Rattle.request.specs.View.{slotsOf}
-use Rattle.state.specs.declared.BatchSemaphore.{BatchSemaphore}
-use Rattle.state.specs.View.{view}
-use Rattle.broken.specs.Parts.{unfit, misfit, misreserved, brokenWaiting}
-use Rattle.broken.specs.Broken.{isBroken}
-use Rattle.broken.proofs.Grouping.{grouping}
+use borrow.Author.Tests.{lt-ltb, le-ltb, le-leb, lt-leb, not-true, not-false}
+use lib.Dec.{leb, ltb, eqb}
+use lib.ListN.{length, getD, replicate}
+use Rattle.rules.specs.Sizes.{slotCount}
+use Rattle.rules.specs.State.{isSome}
+use Rattle.rules.specs.Broken.{anyOf, reservedSlots}
+use Rattle.splitting.specs.Plain.{Request as RequestRule}
+use Rattle.splitting.specs.Broken.{cannotWait}
+use Rattle.queue.specs.declared.Reservation.{Reservation}
+use Rattle.queue.specs.declared.Waiters.{Waiters}
+use Rattle.queue.specs.View.{waitersOf, reservationOf}
+use Rattle.queue.proofs.Lists.{waiters-length}
+use Rattle.records.specs.declared.Request.{Request}
+use Rattle.records.specs.View.{requestOf, Stands}
+use Rattle.broken.specs.Weights.{weights, sumFrom, Marks, brokenSlots}
+use Rattle.broken.specs.Broken.{misreserved}
+use Rattle.broken.proofs.Weighing.{weighed}
+
+-- ---- the slots and the queue
+pub none-seen : (n k : ℕ) → getD (replicate n false) k false ≡ false
+none-seen zero k = refl
+none-seen (suc n) zero = refl
+none-seen (suc n) (suc k) = none-seen n k
+
+pub slots-judged : (n : ℕ) (fair : Bool) (w : List ℕ) (v : Waiters) (seen : List Bool) (r : ℕ) → length (v .slots) ≡ 32 → v .len ≤ slotCount
+    → Marks seen (waitersOf v) → r ≡ sumFrom (weights n fair seen w) slotCount 0 → not (eqb r (v .len)) ≡ brokenSlots n fair (waitersOf v) w
+slots-judged n fair w v seen r l h m e =
+    let q = waiters-length v l h in
+    ap (λ (k : ℕ). not (eqb k (v .len))) e
+    ∙ sym (ap (λ (k : ℕ). not (eqb (sumFrom (weights n fair seen w) slotCount 0) k)) q)
+    ∙ weighed n fair w (waitersOf v) seen m (omega arith)
 
 -- ---- closed
 module _ (closed reserved : Bool) (n : ℕ) where
@@ -33,75 +48,38 @@ module _ (closed reserved : Bool) (n : ℕ) where
   pub closed-else : not closed ≡ false → n ≤ 0 → reserved ≡ closed && (ltb 0 n || reserved)
   closed-else e h = rw (not-false closed e, le-ltb 0 n h)
 
--- ---- the queue and the slots
-module _ (n : ℕ) (rs : List (Option Request)) (q : List Slot) (fair : Bool) where
-  pub names-wrong : (b : Bool) → b ≡ (anyOf isBeyond q || twice q) → b ≡ true → true ≡ brokenWaiting n rs q fair
-  names-wrong b e t = let f : (anyOf isBeyond q || twice q) ≡ true = sym e ∙ t in rw f
+-- ---- the reserved request
+abbrev unable : ℕ → Request → Bool
+unable n r = not (r .used) || r .queued || not (r .ask .reserving) || cannotWait n (requestOf r)
 
-  pub queue-wrong : (b c : Bool) → b ≡ (anyOf isBeyond q || twice q) → b ≡ false → c ≡ anyOf (unfit n rs) q → c ≡ true → true ≡ brokenWaiting n rs q fair
-  queue-wrong b c e t f u =
-      let g : (anyOf isBeyond q || twice q) ≡ false = sym e ∙ t in
-      let h : anyOf (unfit n rs) q ≡ true = sym f ∙ u in
-      rw (g, h)
+pub reserve-else : (n : ℕ) (r : Request) → not (r .used) ≡ false → r .queued ≡ false → not (r .ask .reserving) ≡ false → r .holding ≡ false → r .completed ≡ false
+    → leb n (r .task) ≡ unable n r
+reserve-else n r u q p h d = rw (u, q, p, h, d)
 
-  pub slots-decide : (b c : Bool) → b ≡ (anyOf isBeyond q || twice q) → b ≡ false → c ≡ anyOf (unfit n rs) q → c ≡ false
-      → anyOf (misfit rs q fair) everySlot ≡ brokenWaiting n rs q fair
-  slots-decide b c e t f u =
-      let g : (anyOf isBeyond q || twice q) ≡ false = sym e ∙ t in
-      let h : anyOf (unfit n rs) q ≡ false = sym f ∙ u in
-      rw (g, h)
+module _ (n : ℕ) (rs : List (Option RequestRule)) (v : Reservation) where
+  pub unreserved : not (v .made) ≡ true → false ≡ anyOf (misreserved n rs) (reservedSlots (reservationOf v))
+  unfolding anyOf
+  unreserved e = rw (not-true (v .made) e)
 
--- ---- the whole
-some-queued : (q : List Slot) → nonEmpty q ≡ ltb 0 (length q)
-some-queued [] = sym (le-ltb 0 0 (omega arith))
-some-queued (x ∷ q) = sym (lt-ltb 0 (length (x ∷ q)) (omega arith))
+  module _ (m : not (v .made) ≡ false) where
+    one : anyOf (misreserved n rs) (reservedSlots (reservationOf v)) ≡ misreserved n rs (v .slot) || false
+    unfolding anyOf
+    one = rw (not-false (v .made) m)
 
-is-made : (b : Bool) (x : Slot) → isSome (cond b (some x) none) ≡ b
-is-made true x = refl
-is-made false x = refl
+    pub reserved-beyond : 32 ≤ v .slot .0 → true ≡ anyOf (misreserved n rs) (reservedSlots (reservationOf v))
+    reserved-beyond h = sym (one ∙ rw (le-leb 32 (v .slot .0) h))
 
--- each of five parts in turn, however they are bracketed
-in-turn : (a b c d e : Bool) → a || (((b || c) || d) || e) ≡ (a || b) || (c || (d || e))
-in-turn true b c d e = refl
-in-turn false true c d e = refl
-in-turn false false true d e = refl
-in-turn false false false d e = refl
+    pub reserved-judged : (b : Bool) (r : Request) → v .slot .0 < 32 → Stands r (getD rs (v .slot .0) none) → b ≡ unable n r
+        → b ≡ anyOf (misreserved n rs) (reservedSlots (reservationOf v))
+    reserved-judged b r h s e = e ∙ sym (one ∙ rw (lt-leb 32 (v .slot .0) h, some-used, ← s .view) (or-false _))
+      where
+        some-used : isSome (getD rs (v .slot .0) none) ≡ r .used
+        some-used = rw (← s .used) (go (r .used))
+          where
+            go : (b : Bool) → isSome (cond b (some (requestOf r)) none) ≡ b
+            go true = refl
+            go false = refl
 
--- a part that says yes decides, and one that says no leaves the rest to decide
-module _ (x part rest b : Bool) (e : x ≡ part || rest) (f : b ≡ part) where
-  pub says-yes : b ≡ true → true ≡ x
-  says-yes h = sym (e ∙ rw (← f, h))
-
-  pub says-no : b ≡ false → x ≡ rest
-  says-no h = e ∙ rw (← f, h)
-
-module _ (s : BatchSemaphore) where
-  pub past-tasks : 16 < s .tasks .count → true ≡ isBroken s
-  unfolding isBroken
-  past-tasks h = rw (lt-ltb 16 (s .tasks .count) h)
-
-  pub past-queue : s .tasks .count ≤ 16 → 32 < s .waiters .len → true ≡ isBroken s
-  unfolding isBroken
-  past-queue t h = rw (le-ltb 16 (s .tasks .count) t, lt-ltb 32 (s .waiters .len) h)
-
-  -- what the queue and the slots, the reservation, and whether it is closed have to say
-  abbrev pub waiting : Bool
-  waiting = brokenWaiting (length (tasksOf (s .tasks))) (slotsOf (s .requests)) (waitersOf (s .waiters)) (strict (view s))
-
-  abbrev pub reserving : Bool
-  reserving = anyOf (misreserved (length (tasksOf (s .tasks))) (slotsOf (s .requests))) (reservedSlots (reservationOf (s .reservation)))
-
-  abbrev pub closing : Bool
-  closing = s .closed && (ltb 0 (length (waitersOf (s .waiters))) || s .reservation .made)
-
-  pub decided : s .tasks .count ≤ 16 → s .waiters .len ≤ 32 → isBroken s ≡ brokenPermits (s .permits) || (waiting || (reserving || closing))
-  unfolding isBroken brokenPermits waitersOf
-  decided t q =
-      rw (
-        le-ltb 16 (s .tasks .count) t,
-        le-ltb 32 (s .waiters .len) q,
-        grouping (view s) (simp (length-map, length-take) (omega arith)) (simp length-take (omega arith)),
-        some-queued (take (s .waiters .len) (s .waiters .slots)),
-        is-made (s .reservation .made) (s .reservation .slot),
-      )
-      (in-turn (headBeyond (s .permits)) _ _ _ _)
+        or-false : (b : Bool) → b || false ≡ b
+        or-false true = refl
+        or-false false = refl

@@ -1,21 +1,20 @@
--- The source's key invariants (2) to (6) hold of every sound state: so of every struct that is not broken, and of every state that a
--- run from an accepted fresh state reaches.
+-- The source's key invariants (2) to (6) hold of every sound state: so of what is handed in and not broken, and of every state that a run from an
+-- accepted fresh state reaches.
 use mathlib.Core.Path.{_≡_, sym, _∙_}
 use mathlib.Core.Bool.{false}
 use mathlib.Core.List.{List}
-use lib.ListN.{length}
+use Prim.Native.Nat.{ℕ}
 use Rattle.rules.specs.declared.Step.{Step}
-use Rattle.rules.specs.Sizes.{slotCount}
 use Rattle.rules.specs.State.{State}
 use Rattle.rules.specs.Sound.{Sound}
 use Rattle.rules.specs.Fresh.{Start, fresh, refuses12}
 use Rattle.rules.specs.Runs.{run}
 use Rattle.rules.proofs.KeepsSteps.{sound-fresh, sound-run}
 use Rattle.state.specs.declared.BatchSemaphore.{BatchSemaphore}
-use Rattle.state.specs.View.{view}
+use Rattle.state.specs.View.{Words, viewOf}
 use Rattle.broken.specs.Broken.{isBroken}
 use Rattle.broken.specs.KeyInvariants.{KeyInvariants}
-use Rattle.broken.proofs.Unbroken.{unbroken-sound}
+use Rattle.broken.proofs.Unbroken.{unbroken-fit}
 
 pub sound-keys : (s : State) → Sound s → KeyInvariants s
 sound-keys s h =
@@ -30,8 +29,8 @@ sound-keys s h =
       closed-unreserved = λ c. h .closed c .1;
     }
 
-pub unbroken-keys : (s : BatchSemaphore) → length (s .requests .all) ≡ slotCount → isBroken s ≡ false → KeyInvariants (view s)
-unbroken-keys s n e = sound-keys (view s) (unbroken-sound s e n)
+pub unbroken-keys : (s : BatchSemaphore) (w : Words) (gs : List ℕ) → isBroken s w gs ≡ false → KeyInvariants (viewOf s w)
+unbroken-keys s w gs e = sound-keys (viewOf s w) (unbroken-fit s w gs e .sound)
 
 pub run-keys : (a : Start) → refuses12 a ≡ false → (steps : List Step) → KeyInvariants (run steps (fresh a) .state)
 run-keys a e steps = sound-keys (run steps (fresh a) .state) (sound-run steps (fresh a) (sound-fresh a e))

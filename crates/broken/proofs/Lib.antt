@@ -1,6 +1,12 @@
-pub mod Judging
-pub mod Looking
-pub mod Grouping
+pub mod Requests
+pub mod Weights
+pub mod Naming
+pub mod Rows
+pub mod Counting
+pub mod Weighing
+pub mod Tasks
 pub mod Deciding
+pub mod Who
+pub mod Lengths
 pub mod Unbroken
 pub mod Keys

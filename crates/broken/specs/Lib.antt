@@ -1,3 +1,3 @@
-pub mod Parts
+pub mod Weights
 pub mod Broken
 pub mod KeyInvariants

@@ -1,18 +1,26 @@
--- Rows of starting clocks: one clock filled entry by entry, and the tasks made row by row.
+-- Rows of starting clocks: one clock filled entry by entry, and the clocks made row by row.
+use mir.Syntax.{w64}
+use mir.Val.{Fits}
 use Prim.Native.Nat.{ℕ, suc, _+_, _-_, _*_, _≤_, _<_}
-use native.Mathlib.Nat.{mul-le-mul-right, suc-mul}
+use native.Mathlib.Nat.{mul-le-mul, mul-le-mul-right, suc-mul}
 use native.Mathlib.Numerals.{add-one}
 use native.Mathlib.Omega.{arith}
-use mathlib.Core.Path.{_≡_, _∙_}
-use mathlib.Core.Bool.{false}
-use mathlib.Core.List.{List, [], _∷_, _++_, append-assoc}
+use mathlib.Core.Path.{_≡_, sym, _∙_}
+use mathlib.Core.List.{List, [], _∷_, _++_, append-assoc, append-nil}
 use lib.ListN.{length, getD, set, take, drop, replicate, length-drop}
-use lib.Seq.{take-suc, getD-drop, drop-drop, set-at, length-take-le}
-use Rattle.rules.specs.declared.TaskState.the-variants.{Runnable}
-use Rattle.rules.specs.Sizes.{width}
+use lib.Seq.{take-suc, take-suc-set, getD-drop, drop-drop, set-at, length-take-le}
+use Rattle.rules.specs.Sizes.{width, maxTasks}
 use Rattle.rules.specs.Clock.{empty}
-use Rattle.rules.specs.Task.{Task}
-use Rattle.rules.specs.Fresh.{freshTasks}
+use Rattle.splitting.specs.Asking.{freshClocks}
+use Rattle.clock.specs.declared.VectorClock.{VectorClock}
+use Rattle.times.specs.View.{clocksOf, clocksAt}
+use Rattle.fresh.specs.Starting.{Heard}
+use Rattle.tables.specs.Table.{row}
+use Rattle.tables.proofs.Tables.{table-length}
+
+clocks-length : (w n : ℕ) (xs : List ℕ) → length (clocksOf w n xs) ≡ n
+unfolding clocksOf
+clocks-length w n xs = table-length (row w xs) (empty w) n 0
 
 -- one entry more of a row, over a clock that was empty from there on
 pub entry-more : (l : List ℕ) (base j w : ℕ) → base + j < length l → j < w
@@ -30,26 +38,49 @@ entry-more l base j w h k =
       append-assoc (take j (drop base l)) (getD l (base + j) 0 ∷ []) (replicate (w - suc j) 0),
     )
 
--- the task of a row
-abbrev pub rowTask : ℕ → List ℕ → Task
-rowTask n rows = record { state = Runnable; woken = false; clock = take n rows ++ empty (width - n) }
-
--- one task more, and the rest of the rows
-pub task-more : (n i : ℕ) (rows : List ℕ) (ts us : List Task) → i < n → us ≡ ts ++ rowTask n (drop (i * n) rows) ∷ []
-    → us ++ freshTasks n (n - (i + 1)) (drop ((i + 1) * n) rows) ≡ ts ++ freshTasks n (n - i) (drop (i * n) rows)
-unfolding freshTasks
-task-more n i rows ts us h e =
-    let m : n - i ≡ suc (n - (i + 1)) = omega arith in
-    let d : drop n (drop (i * n) rows) ≡ drop ((i + 1) * n) rows = drop-drop n (i * n) rows ∙ rw (add-one, suc-mul) in
-    rw (e, m, d, append-assoc)
-
 -- a row lies within the rows
 pub row-within : (n i : ℕ) → i < n → i * n + n ≤ n * n
 row-within n i h = let e : suc i * n ≡ i * n + n = suc-mul i n in rw e at (mul-le-mul-right n h)
 
--- before the first row
-pub tasks-none : (n : ℕ) (rows : List ℕ) (ts : List Task) → ts ≡ [] → ts ++ freshTasks n (n - 0) (drop (0 * n) rows) ≡ freshTasks n n rows
-tasks-none n rows ts e =
-    let z : n - 0 ≡ n = omega arith in
-    let m : 0 * n ≡ 0 = omega arith in
-    rw (e, z, m)
+pub row-there : (n i : ℕ) (rows : List ℕ) → i < n → length rows ≡ n * n → i * n + n ≤ length rows
+row-there n i rows h l = omega (arith, row-within n i h)
+
+pub row-fits : (n i : ℕ) → n ≤ maxTasks → i < n → Fits w64 (i * n)
+row-fits n i few h = record { fits = omega (arith, mul-le-mul {n₁ = i} {m₁ = n} {n₂ = maxTasks} {m₂ = maxTasks} (omega arith) few) }
+
+-- the loop that makes the clocks: those made so far, and the rest of the rows
+pub record Making (starts clocks : List ℕ) (n i : ℕ) : Type 0 where
+  pub sized : length clocks ≡ maxTasks * width
+  pub passed : i ≤ n
+  pub made : take i (clocksAt maxTasks clocks) ++ freshClocks n (n - i) (drop (i * n) starts) ≡ freshClocks n n starts
+
+module _ (starts : List ℕ) (n : ℕ) where
+  pub makes-none : (clocks : List ℕ) → length clocks ≡ maxTasks * width → Making starts clocks n 0
+  makes-none clocks l =
+      let z : n - 0 ≡ n = omega arith in
+      let m : 0 * n ≡ 0 = omega arith in
+      record { sized = l; passed = omega arith; made = rw (z, m) }
+
+  module _ (clocks : List ℕ) (i : ℕ) (m : Making starts clocks n i) where
+    pub makes-more : (out : List ℕ) (c : VectorClock) → i < n → n ≤ maxTasks → length out ≡ length clocks
+        → c .0 ≡ take n (drop (i * n) starts) ++ empty (width - n)
+        → clocksAt maxTasks out ≡ set (clocksAt maxTasks clocks) i (c .0)
+        → Making starts out n (i + 1)
+    unfolding freshClocks
+    makes-more out c h few l e s =
+        let k : n - i ≡ suc (n - (i + 1)) = omega arith in
+        let d : drop n (drop (i * n) starts) ≡ drop ((i + 1) * n) starts = drop-drop n (i * n) starts ∙ rw (add-one, suc-mul) in
+        let p : i < length (clocksAt maxTasks clocks) = omega (arith, clocks-length width maxTasks clocks) in
+        let t : take (i + 1) (clocksAt maxTasks out) ≡ take i (clocksAt maxTasks clocks) ++ (c .0 ∷ []) = rw (s, add-one) (take-suc-set (clocksAt maxTasks clocks) i (c .0) p) in
+        record {
+          sized = l ∙ m .sized;
+          passed = omega arith;
+          made = rw (t, e, append-assoc) (rw (k, d) at (m .made));
+        }
+
+    pub makes-all : (clocks₀ : List ℕ) → length clocks₀ ≡ maxTasks * width → n ≤ i → Heard clocks clocks₀ n (freshClocks n n starts)
+    unfolding freshClocks
+    makes-all clocks₀ l h =
+        let e : i ≡ n = omega (arith, m .passed) in
+        let z : n - n ≡ 0 = omega arith in
+        record { sized = m .sized ∙ sym l; first = sym (append-nil _) ∙ (rw (e, z) at (m .made)) }

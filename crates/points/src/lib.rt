@@ -1,23 +1,27 @@
-// Whether a scheduling point comes before a step: questions that change nothing, in the place of the source's `thread::switch`.
+// Whether a scheduling point comes before a step: questions that change nothing, in the place of the source's `thread::switch`. 14 comes
+// before all that is refused here.
 ghost use mathlib.Core.Path.{_≡_};
-ghost use mathlib.Core.List.{[], _∷_};
-ghost use Rattle.rules.specs.declared.Question.the-variants.{BeforePoll, BeforeDropAgain};
-ghost use Rattle.rules.specs.Refusals.{_if_, noSuchRequest, isCompleted};
-ghost use Rattle.rules.specs.Points.{waits as waitsOf, point as pointOf, pointGrounds, tell as tellOf, toldOf};
-ghost use Rattle.replies.specs.Answers.{given};
-ghost use Rattle.state.specs.View.{view};
-ghost use Rattle.refusals.specs.Checks.{Says};
-ghost use Rattle.points.specs.Told.{toldBy, answerTo};
-use deciding::both;
-use refusals::check_actor;
-use refusals::first_of;
-use refusals::refuse_if;
+ghost use mathlib.Core.List.{List};
+ghost use mathlib.Core.Option.{none};
+ghost use Prim.Native.Nat.{ℕ, _*_};
+ghost use lib.ListN.{length, getD};
+ghost use Rattle.rules.specs.declared.Slot.{Slot as SlotRule};
+ghost use Rattle.rules.specs.declared.Question.the-variants.{BeforeTryUpgrade, BeforePoll, BeforeDrop, BeforeDropAgain};
+ghost use Rattle.rules.specs.Sizes.{slotCount};
+ghost use Rattle.splitting.specs.Plain.{Plain};
+ghost use Rattle.splitting.specs.Asking.{waits as waitsOf, point, toldOf};
+ghost use Rattle.records.specs.View.{Stands};
+ghost use Rattle.words.specs.View.{requestWords, slotsOf};
+ghost use Rattle.head.specs.View.{plainOf, Shaped};
+ghost use Rattle.points.specs.Told.{toldBy, answer};
+use choosing::both;
+use head::Head;
+use records::Request;
 use replies::Check;
 use replies::Refusal;
 use rules::Question;
 use rules::Slot;
 use rules::TaskId;
-use state::BatchSemaphore;
 
 // Whether a point comes, or why the question is refused.
 pub enum Told {
@@ -25,122 +29,118 @@ pub enum Told {
     Refused(Refusal),
 }
 
+// ---- points, of the request that was read at the slot
 // A poll: when never polled, if strictly fair, holding, closed, or available at least the least.
-fn before_poll(s: BatchSemaphore, x: Slot) -> bool
-    ensures { λ b. ⌜ b ≡ pointOf (BeforePoll x) (view s) ⌝ }
+fn before_poll(h: Head, r: Request) -> bool
+    ensures { λ b. ⌜ ((x : SlotRule) (slots tasks : List ℕ) → Stands r (getD (slotsOf slots) (x .0) none) → b ≡ point (BeforePoll x) (plainOf h slots tasks)) ⌝ }
 {
-    let r = s.request(x);
     if r.polled {
         return false;
     }
-    if s.strictly_fair() {
+    if h.strictly_fair() {
         return true;
     }
     if r.holding {
         return true;
     }
-    if s.closed {
+    if h.closed {
         return true;
     }
-    let available = s.available_permits();
+    let available = h.available_permits();
     r.ask.least <= available
 }
 
 // A drop's first question: queued or having the reservation.
-fn waits(s: BatchSemaphore, x: Slot) -> bool
-    ensures { λ b. ⌜ b ≡ waitsOf x (view s) ⌝ }
+fn waits(h: Head, x: Slot, r: Request) -> bool
+    ensures { λ b. ⌜ ((slots tasks : List ℕ) → Stands r (getD (slotsOf slots) (x .0) none) → b ≡ waitsOf x (plainOf h slots tasks)) ⌝ }
 {
-    let r = s.request(x);
     if r.queued {
         return true;
     }
-    let reservation = s.reservation;
+    let reservation = h.reservation;
     reservation.is_of(x)
 }
 
 // A drop's second question: neither of these, but holding and not completed.
-fn before_drop_again(s: BatchSemaphore, x: Slot) -> bool
-    ensures { λ b. ⌜ b ≡ pointOf (BeforeDropAgain x) (view s) ⌝ }
+fn before_drop_again(h: Head, x: Slot, r: Request) -> bool
+    ensures { λ b. ⌜ ((slots tasks : List ℕ) → Stands r (getD (slotsOf slots) (x .0) none) → b ≡ point (BeforeDropAgain x) (plainOf h slots tasks)) ⌝ }
 {
-    if waits(s, x) {
+    if waits(h, x, r) {
         return false;
     }
-    let r = s.request(x);
     both(r.holding, !r.completed)
 }
 
-// Whether a point comes. Before a try, a try-upgrade, a release and a close: always.
-fn comes(s: BatchSemaphore, q: Question) -> bool
-    ensures { λ b. ⌜ b ≡ pointOf q (view s) ⌝ }
+// ---- questions, by their own grounds of refusal
+fn ask_try_upgrade(held: u32, wanted: u32) -> Told
+    ensures { λ r. ⌜ ((p : Plain) → toldBy r ≡ answer (BeforeTryUpgrade held wanted) p) ⌝ }
+{
+    if planning::bad_upgrade(held, wanted) {
+        return Told::Refused(Refusal::BadCounts);
+    }
+    Told::Point(true)
+}
+
+fn ask_poll(h: Head, slots: &[u32], x: Slot) -> Told
+    requires { ⌜ length (now slots) ≡ slotCount * requestWords ⌝ }
+    ensures { λ r. ⌜ ((tasks : List ℕ) → toldBy r ≡ answer (BeforePoll x) (plainOf h (now (slots .entry)) tasks)) ⌝ }
+{
+    let r = words::request_at(slots, x);
+    if !r.used {
+        return Told::Refused(Refusal::NoSuchRequest);
+    }
+    if r.completed {
+        return Told::Refused(Refusal::Completed);
+    }
+    Told::Point(before_poll(h, r))
+}
+
+fn ask_drop(h: Head, slots: &[u32], x: Slot) -> Told
+    requires { ⌜ length (now slots) ≡ slotCount * requestWords ⌝ }
+    ensures { λ r. ⌜ ((tasks : List ℕ) → toldBy r ≡ answer (BeforeDrop x) (plainOf h (now (slots .entry)) tasks)) ⌝ }
+{
+    let r = words::request_at(slots, x);
+    if !r.used {
+        return Told::Refused(Refusal::NoSuchRequest);
+    }
+    Told::Point(waits(h, x, r))
+}
+
+fn ask_drop_again(h: Head, slots: &[u32], x: Slot) -> Told
+    requires { ⌜ length (now slots) ≡ slotCount * requestWords ⌝ }
+    ensures { λ r. ⌜ ((tasks : List ℕ) → toldBy r ≡ answer (BeforeDropAgain x) (plainOf h (now (slots .entry)) tasks)) ⌝ }
+{
+    let r = words::request_at(slots, x);
+    if !r.used {
+        return Told::Refused(Refusal::NoSuchRequest);
+    }
+    Told::Point(before_drop_again(h, x, r))
+}
+
+// Before a try, a release and a close a point always comes.
+fn ask_runnable(h: Head, slots: &[u32], q: Question) -> Told
+    requires { ⌜ length (now slots) ≡ slotCount * requestWords ⌝ }
+    ensures { λ r. ⌜ ((tasks : List ℕ) → toldBy r ≡ answer q (plainOf h (now (slots .entry)) tasks)) ⌝ }
 {
     match q {
-        Question::BeforeTry => true,
-        Question::BeforeTryUpgrade { held: _, wanted: _ } => true,
-        Question::BeforeRelease => true,
-        Question::BeforeClose => true,
-        Question::BeforePoll(x) => before_poll(s, x),
-        Question::BeforeDrop(x) => waits(s, x),
-        Question::BeforeDropAgain(x) => before_drop_again(s, x),
+        Question::BeforeTry => Told::Point(true),
+        Question::BeforeTryUpgrade { held, wanted } => ask_try_upgrade(held, wanted),
+        Question::BeforeRelease => Told::Point(true),
+        Question::BeforeClose => Told::Point(true),
+        Question::BeforePoll(x) => ask_poll(h, slots, x),
+        Question::BeforeDrop(x) => ask_drop(h, slots, x),
+        Question::BeforeDropAgain(x) => ask_drop_again(h, slots, x),
     }
 }
 
-// The slot has a request: a drop's questions ask no more.
-fn check_slot(s: BatchSemaphore, x: Slot) -> Check
-    ensures { λ r. ⌜ Says r (3 if noSuchRequest x (view s) ∷ []) ⌝ }
+// A question about a state that is not broken: the actor's refusals first.
+pub fn ask(h: Head, slots: &[u32], tasks: &[u32], me: TaskId, q: Question) -> Told
+    requires { ⌜ Shaped h (now slots) (now tasks) ⌝ }
+    ensures { λ r. ⌜ toldBy r ≡ toldOf me q (plainOf h (now (slots .entry)) (now (tasks .entry))) ⌝ }
 {
-    refuse_if(refusals::no_such_request(s, x), Refusal::NoSuchRequest)
-}
-
-// The slot has a request, and it has not completed: a poll's question.
-fn check_pollable(s: BatchSemaphore, x: Slot) -> Check
-    ensures { λ r. ⌜ Says r (3 if noSuchRequest x (view s) ∷ 4 if isCompleted x (view s) ∷ []) ⌝ }
-{
-    let slot = check_slot(s, x);
-    let completed = refuse_if(refusals::is_completed(s, x), Refusal::Completed);
-    first_of(slot, completed)
-}
-
-// What a question meets besides 14, 1 and 2.
-fn check_question(s: BatchSemaphore, q: Question) -> Check
-    ensures { λ r. ⌜ Says r (pointGrounds q (view s)) ⌝ }
-{
-    match q {
-        Question::BeforeTry => Check::Accepted,
-        Question::BeforeTryUpgrade { held, wanted } => {
-            refuse_if(refusals::bad_upgrade(held, wanted), Refusal::BadCounts)
-        }
-        Question::BeforeRelease => Check::Accepted,
-        Question::BeforeClose => Check::Accepted,
-        Question::BeforePoll(x) => check_pollable(s, x),
-        Question::BeforeDrop(x) => check_slot(s, x),
-        Question::BeforeDropAgain(x) => check_slot(s, x),
-    }
-}
-
-fn tell(check: Check, comes: bool) -> Told
-    ensures { λ r. ⌜ toldBy r ≡ tellOf (given check) comes ⌝ }
-{
-    match check {
-        Check::Accepted => Told::Point(comes),
+    let actor = planning::check_actor(h, tasks, me);
+    match actor {
+        Check::Accepted => ask_runnable(h, slots, q),
         Check::Refused(why) => Told::Refused(why),
     }
-}
-
-// A question about a state that is not broken.
-fn ask(s: BatchSemaphore, me: TaskId, q: Question) -> Told
-    ensures { λ r. ⌜ toldBy r ≡ toldOf me q (view s) ⌝ }
-{
-    let actor = check_actor(s, me);
-    let question = check_question(s, q);
-    tell(first_of(actor, question), comes(s, q))
-}
-
-// A question, whatever the struct handed in.
-pub fn point(s: BatchSemaphore, me: TaskId, q: Question) -> Told
-    ensures { λ r. ⌜ toldBy r ≡ answerTo s me q ⌝ }
-{
-    if broken::is_broken(s) {
-        return Told::Refused(Refusal::Broken);
-    }
-    ask(s, me, q)
 }

@@ -1,25 +1,61 @@
 -- What the printers write, as the rules see it.
-use Prim.Native.Nat.{ℕ, _≤_}
+use Prim.Native.Nat.{ℕ, _+_, _*_, _-_, _≤_}
 use mathlib.Core.Path.{_≡_}
 use mathlib.Core.List.{List, [], _∷_, _++_, map}
 use lib.ListN.{length, drop}
 use Rattle.rules.specs.declared.Grant.{Grant}
-use Rattle.rules.specs.State.{State, available as availableOf}
+use Rattle.rules.specs.Sizes.{slotCount}
 use Rattle.rules.specs.Steps.{Answer}
 use Rattle.rules.specs.Text.{space, comma, joinedBy, digits}
 use Rattle.rules.specs.Script.{answerText, closedText, takerText, grantsText, endLine}
+use Rattle.splitting.specs.Plain.{Plain, available as availableOf}
 use Rattle.text.specs.Writing.{Appended}
 use Rattle.printing.specs.declared.Counts.{Counts}
+
+-- The most bytes of each piece of a line.
+
+-- a number of a byte, and any number
+abbrev pub smallRoom : ℕ
+smallRoom = 3
+
+abbrev pub numberRoom : ℕ
+numberRoom = 10
+
+-- a number and a space
+abbrev pub fieldRoom : ℕ
+fieldRoom = numberRoom + 1
+
+-- available, stock, closed and queue length
+abbrev pub countsRoom : ℕ
+countsRoom = 4 * fieldRoom
+
+-- a word, or a letter and a number of a byte
+abbrev pub answerRoom : ℕ
+answerRoom = 7
+
+-- a comma and a taker; those of all grants but the first; those of all
+abbrev pub nextRoom : ℕ
+nextRoom = 1 + smallRoom
+
+abbrev pub restRoom : ℕ
+restRoom = nextRoom * (slotCount - 1)
+
+abbrev pub grantsRoom : ℕ
+grantsRoom = smallRoom + restRoom
+
+-- answer, space, counts, grants, line feed
+abbrev pub lineRoom : ℕ
+lineRoom = answerRoom + 1 + countsRoom + grantsRoom + 1
 
 -- a text of at most so many bytes, written into a buffer
 pub record Printed (most : ℕ) (old : List ℕ) (at : ℕ) (text new : List ℕ) (r : ℕ) : Type 0 where
   pub written : Appended old at text new r
   pub short : length text ≤ most
 
--- what a line shows of a state
-pub record ShownBy (c : Counts) (s : State) : Type 0 where
+-- what a line shows of a state, which has no clock in it
+pub record ShownBy (c : Counts) (s : Plain) : Type 0 where
   pub available : c .available ≡ availableOf s
-  pub stock : c .stock ≡ s .permits .stock
+  pub stock : c .stock ≡ s .stock
   pub closed : c .closed ≡ s .closed
   pub queued : c .queued ≡ length (s .queue)
 

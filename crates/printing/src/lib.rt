@@ -1,20 +1,20 @@
 // The line that a step prints: its reply, what the state shows, and its grants.
 ghost use mathlib.Core.Path.{_≡_};
-ghost use mathlib.Core.List.{_∷_, _++_, []};
-ghost use Prim.Native.Nat.{_+_, _≤_, _<_, min};
-ghost use lib.ListN.{length, take};
+ghost use mathlib.Core.List.{List, _∷_, _++_, []};
+ghost use Prim.Native.Nat.{ℕ, _+_, _*_, _≤_, _<_};
+ghost use lib.ListN.{length};
 ghost use Rattle.rules.specs.Sizes.{slotCount};
 ghost use Rattle.rules.specs.Text.{space, comma, digits};
 ghost use Rattle.rules.specs.Script.{closedText, takerText, grantsText, answerText};
 ghost use Rattle.replies.specs.Answers.{answerOf};
-ghost use Rattle.grants.specs.View.{grantsOf};
-ghost use Rattle.state.specs.View.{view};
-ghost use Rattle.printing.specs.Printed.{Printed, takersText, restText, countsText, lineText, ShownBy};
-use grants::Grants;
+ghost use Rattle.words.specs.View.{takerOf, grantsOf};
+ghost use Rattle.head.specs.View.{plainOf};
+ghost use Rattle.printing.specs.Printed.{smallRoom, fieldRoom, countsRoom, answerRoom, nextRoom, restRoom, grantsRoom, lineRoom, Printed, takersText, restText, countsText, lineText, ShownBy};
+use head::Head;
 use replies::Reply;
-use rules::Grant;
-use rules::Taker;
-use state::BatchSemaphore;
+
+// A grant's first word is the number of a slot below this, and else a try.
+const TRY: u32 = 256;
 
 // What a line shows of the state: available, stock, closed or not, queue length.
 pub struct Counts {
@@ -24,34 +24,32 @@ pub struct Counts {
     pub queued: u32,
 }
 
-// What a line shows of any struct.
-pub fn counts_of(s: BatchSemaphore) -> Counts
-    ensures { λ c. ⌜ ShownBy c (view s) ⌝ }
+// What a line shows of any state: slots and tasks do not show.
+pub fn counts_of(h: Head) -> Counts
+    ensures { λ c. ⌜ ((slots tasks : List ℕ) → ShownBy c (plainOf h slots tasks)) ⌝ }
 {
-    let available = s.available_permits();
-    let stock = s.stock();
-    let closed = s.is_closed();
-    let queued = s.queue_length() as u32;
+    let available = h.available_permits();
+    let queued = h.queue_length() as u32;
     Counts {
         available,
-        stock,
-        closed,
+        stock: h.stock,
+        closed: h.closed,
         queued,
     }
 }
 
-// A byte's number: at most three digits.
+// A byte's number.
 fn print_small(buf: &mut [u8], at: usize, n: u8) -> usize
-    requires { ⌜ at + 3 ≤ length (now buf) ⌝ }
-    ensures { λ r. ⌜ Printed 3 (now (buf .entry)) at (digits n) (now (buf .exit)) r ⌝ }
+    requires { ⌜ at + smallRoom ≤ length (now buf) ⌝ }
+    ensures { λ r. ⌜ Printed smallRoom (now (buf .entry)) at (digits n) (now (buf .exit)) r ⌝ }
 {
     text::print_number(buf, at, n as u32)
 }
 
 // A number and a space.
 fn print_field(buf: &mut [u8], at: usize, n: u32) -> usize
-    requires { ⌜ at + 11 ≤ length (now buf) ⌝ }
-    ensures { λ r. ⌜ Printed 11 (now (buf .entry)) at (digits n ++ space ∷ []) (now (buf .exit)) r ⌝ }
+    requires { ⌜ at + fieldRoom ≤ length (now buf) ⌝ }
+    ensures { λ r. ⌜ Printed fieldRoom (now (buf .entry)) at (digits n ++ space ∷ []) (now (buf .exit)) r ⌝ }
 {
     let p = text::print_number(buf, at, n);
     text::put(buf, p, b" ")
@@ -65,8 +63,8 @@ pub fn bit(b: bool) -> u32
 }
 
 fn print_counts(buf: &mut [u8], at: usize, c: Counts) -> usize
-    requires { ⌜ at + 44 ≤ length (now buf) ⌝ }
-    ensures { λ r. ⌜ Printed 44 (now (buf .entry)) at (countsText c) (now (buf .exit)) r ⌝ }
+    requires { ⌜ at + countsRoom ≤ length (now buf) ⌝ }
+    ensures { λ r. ⌜ Printed countsRoom (now (buf .entry)) at (countsText c) (now (buf .exit)) r ⌝ }
 {
     let p = print_field(buf, at, c.available);
     let q = print_field(buf, p, c.stock);
@@ -75,8 +73,8 @@ fn print_counts(buf: &mut [u8], at: usize, c: Counts) -> usize
 }
 
 fn print_answer(buf: &mut [u8], at: usize, a: Reply) -> usize
-    requires { ⌜ at + 7 ≤ length (now buf) ⌝ }
-    ensures { λ r. ⌜ Printed 7 (now (buf .entry)) at (answerText (answerOf a)) (now (buf .exit)) r ⌝ }
+    requires { ⌜ at + answerRoom ≤ length (now buf) ⌝ }
+    ensures { λ r. ⌜ Printed answerRoom (now (buf .entry)) at (answerText (answerOf a)) (now (buf .exit)) r ⌝ }
 {
     match a {
         Reply::Done => text::put(buf, at, b"done"),
@@ -95,78 +93,68 @@ fn print_answer(buf: &mut [u8], at: usize, a: Reply) -> usize
     }
 }
 
-fn print_taker(buf: &mut [u8], at: usize, t: Taker) -> usize
-    requires { ⌜ at + 3 ≤ length (now buf) ⌝ }
-    ensures { λ r. ⌜ Printed 3 (now (buf .entry)) at (takerText t) (now (buf .exit)) r ⌝ }
+// Who took, by a grant's first word.
+fn print_taker(buf: &mut [u8], at: usize, taker: u32) -> usize
+    requires { ⌜ at + smallRoom ≤ length (now buf) ⌝ }
+    ensures { λ r. ⌜ Printed smallRoom (now (buf .entry)) at (takerText (takerOf taker)) (now (buf .exit)) r ⌝ }
 {
-    match t {
-        Taker::BySlot(x) => print_small(buf, at, x.0),
-        Taker::ByTry => text::put(buf, at, b"t"),
+    if taker < TRY {
+        return text::print_number(buf, at, taker);
     }
+    text::put(buf, at, b"t")
 }
 
-fn print_next(buf: &mut [u8], at: usize, t: Taker) -> usize
-    requires { ⌜ at + 4 ≤ length (now buf) ⌝ }
-    ensures { λ r. ⌜ Printed 4 (now (buf .entry)) at (comma ∷ takerText t) (now (buf .exit)) r ⌝ }
+fn print_next(buf: &mut [u8], at: usize, taker: u32) -> usize
+    requires { ⌜ at + nextRoom ≤ length (now buf) ⌝ }
+    ensures { λ r. ⌜ Printed nextRoom (now (buf .entry)) at (comma ∷ takerText (takerOf taker)) (now (buf .exit)) r ⌝ }
 {
     let p = text::put(buf, at, b",");
-    print_taker(buf, p, t)
+    print_taker(buf, p, taker)
 }
 
-// The takers of the first n grants but the very first, a comma before each.
-fn print_rest(buf: &mut [u8], at: usize, items: [Grant; 32], n: usize) -> usize
-    requires { ⌜ (0 < n) × (n ≤ slotCount) × (at + 124 ≤ length (now buf)) ⌝ }
-    ensures { λ r. ⌜ Printed 124 (now (buf .entry)) at (restText (take n items)) (now (buf .exit)) r ⌝ }
+// The takers of n grants but the very first, a comma before each.
+fn print_rest(buf: &mut [u8], at: usize, grants: &[u32], n: usize) -> usize
+    requires { ⌜ (0 < n) × (n ≤ slotCount) × (length (now grants) ≡ slotCount * 3) × (at + restRoom ≤ length (now buf)) ⌝ }
+    ensures { λ r. ⌜ Printed restRoom (now (buf .entry)) at (restText (grantsOf n (now (grants .entry)))) (now (buf .exit)) r ⌝ }
 {
     let mut p = at;
     let mut i: usize = 1;
     while i < n {
-        let g = items[i];
-        let t = g.taker;
-        p = print_next(buf, p, t);
+        let taker = grants[3 * i];
+        p = print_next(buf, p, taker);
         i += 1;
     }
     p
 }
 
-// The takers of the first n grants, joined by commas.
-fn print_takers(buf: &mut [u8], at: usize, items: [Grant; 32], n: usize) -> usize
-    requires { ⌜ (0 < n) × (n ≤ slotCount) × (at + 127 ≤ length (now buf)) ⌝ }
-    ensures { λ r. ⌜ Printed 127 (now (buf .entry)) at (takersText (take n items)) (now (buf .exit)) r ⌝ }
+// The takers of n grants, joined by commas.
+fn print_takers(buf: &mut [u8], at: usize, grants: &[u32], n: usize) -> usize
+    requires { ⌜ (0 < n) × (n ≤ slotCount) × (length (now grants) ≡ slotCount * 3) × (at + grantsRoom ≤ length (now buf)) ⌝ }
+    ensures { λ r. ⌜ Printed grantsRoom (now (buf .entry)) at (takersText (grantsOf n (now (grants .entry)))) (now (buf .exit)) r ⌝ }
 {
-    let g = items[0];
-    let t = g.taker;
-    let p = print_taker(buf, at, t);
-    print_rest(buf, p, items, n)
+    let taker = grants[0];
+    let p = print_taker(buf, at, taker);
+    print_rest(buf, p, grants, n)
 }
 
-// How many of n grants stand in the array.
-fn standing(n: usize) -> usize
-    ensures { λ r. ⌜ r ≡ min n slotCount ⌝ }
+fn print_grants(buf: &mut [u8], at: usize, grants: &[u32], n: usize) -> usize
+    requires { ⌜ (n ≤ slotCount) × (length (now grants) ≡ slotCount * 3) × (at + grantsRoom ≤ length (now buf)) ⌝ }
+    ensures { λ r. ⌜ Printed grantsRoom (now (buf .entry)) at (grantsText (grantsOf n (now (grants .entry)))) (now (buf .exit)) r ⌝ }
 {
-    if n < 32 { n } else { 32 }
-}
-
-fn print_grants(buf: &mut [u8], at: usize, g: Grants) -> usize
-    requires { ⌜ at + 127 ≤ length (now buf) ⌝ }
-    ensures { λ r. ⌜ Printed 127 (now (buf .entry)) at (grantsText (grantsOf g)) (now (buf .exit)) r ⌝ }
-{
-    let n = standing(g.len);
     if n == 0 {
         return text::put(buf, at, b"-");
     }
-    let items = g.items;
-    print_takers(buf, at, items, n)
+    print_takers(buf, at, grants, n)
 }
 
-// The whole line, which takes at most 180 bytes.
-pub fn print_line(buf: &mut [u8], at: usize, a: Reply, c: Counts, g: Grants) -> usize
-    requires { ⌜ at + 180 ≤ length (now buf) ⌝ }
-    ensures { λ r. ⌜ Printed 180 (now (buf .entry)) at (lineText (answerOf a) c (grantsOf g)) (now (buf .exit)) r ⌝ }
+// The whole line.
+pub fn print_line(buf: &mut [u8], at: usize, a: Reply, c: Counts, grants: &[u32], n: usize) -> usize
+    requires { ⌜ (n ≤ slotCount) × (length (now grants) ≡ slotCount * 3) × (at + lineRoom ≤ length (now buf)) ⌝ }
+    ensures { λ r. ⌜ Printed lineRoom (now (buf .entry)) at (lineText (answerOf a) c (grantsOf n (now (grants .entry)))) (now (buf .exit)) r ⌝ }
 {
     let p = print_answer(buf, at, a);
     let q = text::put(buf, p, b" ");
     let r = print_counts(buf, q, c);
-    let s = print_grants(buf, r, g);
+    let s = print_grants(buf, r, grants, n);
     text::put(buf, s, b"\n")
 }

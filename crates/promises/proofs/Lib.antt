@@ -1,3 +1,4 @@
+pub mod Begun
 pub mod Carried
 pub mod Promises
 pub mod Told

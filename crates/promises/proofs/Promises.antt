@@ -10,30 +10,34 @@ use Rattle.rules.specs.Runs.{Said, run}
 use Rattle.rules.specs.Sound.{AddUp}
 use Rattle.rules.specs.Promises.{Each, grantedIn, NobodyStranded, CountsFit, GrantFits}
 use Rattle.rules.proofs.Promises.{conservation, batches, nobody-stranded, passed-over, counts-stay, grants-stay, watched-grants}
-use Rattle.state.specs.View.{view}
+use Rattle.state.specs.View.{Words}
 use Rattle.fresh.specs.declared.Started.{Started}
-use Rattle.fresh.proofs.Starts.{refused-exactly, accepted-fresh, started-unbroken}
-use Rattle.promises.specs.Calls.{Begins, Call, Calls, left, stepsOf, saidBy}
+use Rattle.fresh.proofs.Starts.{refused-exactly, accepted-fresh}
+use Rattle.promises.proofs.Begun.{started-unbroken}
+use Rattle.promises.specs.Calls.{Begins, Held, stateOf, Call, Calls, left, stepsOf, saidBy}
 use Rattle.promises.specs.Promised.{Promised}
 use Rattle.promises.proofs.Carried.{Carried, carried}
 
-module _ (a : Start) (r : Started) (b : Begins a r) (cs : List Call) (k : Calls (r .state) cs) where
-  begun : view (r .state) ≡ fresh a
-  begun = accepted-fresh r a (b .gives) (b .accepted)
+module _ (a : Start) (r : Started) (w : Words) (b : Begins a r w) (cs : List Call) (k : Calls (record { struct = r .state; words = w }) cs) where
+  abbrev first : Held
+  first = record { struct = r .state; words = w }
+
+  begun : stateOf first ≡ fresh a
+  begun = accepted-fresh r w a (b .gives) (b .accepted)
 
   allowed : refuses12 a ≡ false
-  allowed = sym (refused-exactly r a (b .gives)) ∙ b .accepted
+  allowed = sym (refused-exactly r w a (b .gives)) ∙ b .accepted
 
-  held : Carried (r .state) cs
-  held = carried cs (r .state) (started-unbroken r a (b .gives)) k
+  held : Carried first cs
+  held = carried cs first (λ room e. started-unbroken r w room a (b .gives) e) k
 
-  now : view (left (r .state) cs) ≡ run (stepsOf cs) (fresh a) .state
+  now : stateOf (left first cs) ≡ run (stepsOf cs) (fresh a) .state
   now = held .state ∙ ap (λ (s : State). run (stepsOf cs) s .state) begun
 
   says : saidBy cs ≡ run (stepsOf cs) (fresh a) .said
   says = held .said ∙ ap (λ (s : State). run (stepsOf cs) s .said) begun
 
-  pub promised : Promised a (r .state) cs
+  pub promised : Promised a first cs
   promised =
       record {
         state = now;

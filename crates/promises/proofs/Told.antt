@@ -26,14 +26,13 @@ use Rattle.rules.specs.Runs.{step}
 use Rattle.rules.specs.Text.{bytes, joinedBy, lastDigits, digits}
 use Rattle.rules.specs.Script.{startWith, endLine, outcomeText}
 use Rattle.rules.specs.Promises.{Each}
-use Rattle.state.specs.declared.BatchSemaphore.{BatchSemaphore}
-use Rattle.state.specs.View.{view}
-use Rattle.broken.specs.Broken.{isBroken}
-use Rattle.outcomes.specs.View.{outcomeOf}
+use Rattle.state.specs.View.{Words, viewOf, outcomeOf}
+use Rattle.promises.proofs.Begun.{any-room}
 use Rattle.fresh.specs.declared.Started.{Started}
-use Rattle.fresh.proofs.Starts.{accepted-fresh, started-unbroken}
+use Rattle.fresh.proofs.Starts.{accepted-fresh}
+use Rattle.promises.proofs.Begun.{started-unbroken}
 use Rattle.semaphore.proofs.Carried.{step-carried}
-use Rattle.promises.specs.Calls.{Begins, Call, Calls, stepsOf}
+use Rattle.promises.specs.Calls.{Held, stateOf, Unbroken, Begins, Call, after, Calls, stepsOf}
 
 -- what a call shows: the line that semtrace prints for it, and the counts of its grants
 pub record Shown : Type 0 where
@@ -44,7 +43,7 @@ abbrev shownBy : Outcome → Shown
 shownBy o = record { line = outcomeText o; granted = map (λ (g : Grant). g .count) (o .grants) }
 
 abbrev pub shownIn : List Call → List Shown
-shownIn cs = map (λ (c : Call). shownBy (outcomeOf (c .result))) cs
+shownIn cs = map (λ (c : Call). shownBy (outcomeOf (c .result) (c .words) (c .grants))) cs
 
 -- what the rules show for steps, one after another
 unfoldable shows : List Step → State → List Shown
@@ -52,12 +51,15 @@ shows [] s = []
 shows (a ∷ as′) s = let o = step a s in shownBy o ∷ shows as′ (o .state)
 
 -- whatever meets the contracts shows what the rules show
-carried-shown : (cs : List Call) (s : BatchSemaphore) → isBroken s ≡ false → Calls s cs → shownIn cs ≡ shows (stepsOf cs) (view s)
+carried-shown : (cs : List Call) (h : Held) → Unbroken h → Calls h cs → shownIn cs ≡ shows (stepsOf cs) (stateOf h)
 unfolding Calls shows
-carried-shown [] s f k = refl
-carried-shown (c ∷ cs) s f k =
-    ap (λ (xs : List Shown). shownBy (outcomeOf (c .result)) ∷ xs) (carried-shown cs (c .result .state) (k .0 .unbroken f) (k .1))
-    ∙ ap (λ (o : Outcome). shownBy o ∷ shows (stepsOf cs) (o .state)) (step-carried s (c .step) (c .result) f (k .0))
+carried-shown [] h f k = refl
+carried-shown (c ∷ cs) h f k =
+    let g = f (c .room) (k .0) in
+    ap (λ (xs : List Shown). shownBy (outcomeOf (c .result) (c .words) (c .grants)) ∷ xs)
+    (carried-shown cs (after c) (any-room (c .result .state) (c .words) (c .grants) (k .1 .unbroken g)) (k .2))
+    ∙ ap (λ (o : Outcome). shownBy o ∷ shows (stepsOf cs) (o .state))
+    (step-carried (h .struct) (h .words) (c .room) (c .step) (c .result) (c .words) (c .grants) g (k .1))
 
 -- a step, the line that it prints and the counts that it grants
 pub record Row : Type 0 where
@@ -200,13 +202,13 @@ by-rules = (refl, (refl, (refl, (refl, (refl, (refl, (refl, (refl, (refl, (refl,
 
 -- every run of calls that meet their contracts, from a struct that met its own, shows what is wanted
 abbrev pub ToldBy : Case → Type 0
-ToldBy c = (r : Started) → Begins (startOf c) r → (cs : List Call) → Calls (r .state) cs → stepsOf cs ≡ steps c → shownIn cs ≡ wanted c
+ToldBy c = (r : Started) (w : Words) → Begins (startOf c) r w → (cs : List Call) → Calls (record { struct = r .state; words = w }) cs → stepsOf cs ≡ steps c → shownIn cs ≡ wanted c
 
 one-told : (c : Case) → shows (steps c) (fresh (startOf c)) ≡ wanted c → ToldBy c
-one-told c e r b cs k same =
-    carried-shown cs (r .state) (started-unbroken r (startOf c) (b .gives)) k
-    ∙ ap (λ (xs : List Step). shows xs (view (r .state))) same
-    ∙ ap (λ (s : State). shows (steps c) s) (accepted-fresh r (startOf c) (b .gives) (b .accepted))
+one-told c e r w b cs k same =
+    carried-shown cs (record { struct = r .state; words = w }) (λ room i. started-unbroken r w room (startOf c) (b .gives) i) k
+    ∙ ap (λ (xs : List Step). shows xs (viewOf (r .state) w)) same
+    ∙ ap (λ (s : State). shows (steps c) s) (accepted-fresh r w (startOf c) (b .gives) (b .accepted))
     ∙ e
 
 each-told : (cs : List Case) → Each (λ (c : Case). shows (steps c) (fresh (startOf c)) ≡ wanted c) cs → Each ToldBy cs

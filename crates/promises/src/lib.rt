@@ -1,1 +1,1 @@
-// No code: what holds over any calls, from the contracts of the calls alone (specs/, proofs/).
+// No code: what holds over any calls on lent words, from the contracts of the calls alone (specs/, proofs/).

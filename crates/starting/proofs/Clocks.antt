@@ -13,6 +13,7 @@ use Rattle.rules.specs.Fresh.{Start}
 use Rattle.rules.specs.Runs.{start}
 use Rattle.rules.proofs.Laws.{refused-start}
 use Rattle.rules.proofs.Scripts.{many-tasks}
+use Rattle.state.specs.View.{Words}
 use Rattle.fresh.specs.declared.Started.{Started}
 use Rattle.fresh.specs.Starting.{Gives}
 use Rattle.script.specs.declared.First.{First}
@@ -22,17 +23,17 @@ use Rattle.script.specs.Opening.{makerSaid}
 use Rattle.starting.specs.Said.{entriesOf, saidWith, startSaid, freshOf}
 
 -- with a maker or without
-module _ (a : First) (r : Started) (cs : List ℕ) where
+module _ (a : First) (r : Started) (w : Words) (cs : List ℕ) where
   abbrev by : Maker → Start
   by m = record { fairness = a .fairness; stock = a .stock; tasks = a .tasks; clocks = cs; maker = makerSaid m }
 
-  said-by : (m : Maker) → a .maker ≡ m → Gives r (start (by m)) → Gives r (start (saidWith a cs))
-  said-by m e g = subst (λ (x : Maker). Gives r (start (by x))) (sym e) g
+  said-by : (m : Maker) → a .maker ≡ m → Gives r w (start (by m)) → Gives r w (start (saidWith a cs))
+  said-by m e g = subst (λ (x : Maker). Gives r w (start (by x))) (sym e) g
 
-  pub said-maker : (t : TaskId) → a .maker ≡ Task t → Gives r (start (by (Task t))) → Gives r (start (saidWith a cs))
+  pub said-maker : (t : TaskId) → a .maker ≡ Task t → Gives r w (start (by (Task t))) → Gives r w (start (saidWith a cs))
   said-maker t e g = said-by (Task t) e g
 
-  pub said-nobody : a .maker ≡ Nobody → Gives r (start (by Nobody)) → Gives r (start (saidWith a cs))
+  pub said-nobody : a .maker ≡ Nobody → Gives r w (start (by Nobody)) → Gives r w (start (saidWith a cs))
   said-nobody e g = said-by Nobody e g
 
 take-zeros : (n m : ℕ) → n ≤ m → take {A = ℕ} n (replicate m 0) ≡ replicate n 0
@@ -71,5 +72,5 @@ zero-start a n e =
           rw (q, take-zeros (k * k) 256 (square k (omega arith)))
     ]
 
-pub gives-zero : (a : First) (zs : List ℕ) (n : ℕ) (r : Started) → zs ≡ replicate 256 0 → n ≡ entriesOf (a .tasks) → Gives r (start (saidWith a (take n zs))) → Gives r (freshOf a)
-gives-zero a zs n r z e g = subst (Gives r) (ap (λ (l : List ℕ). start (saidWith a (take n l))) z ∙ zero-start a n e) g
+pub gives-zero : (a : First) (zs : List ℕ) (n : ℕ) (r : Started) (w : Words) → zs ≡ replicate 256 0 → n ≡ entriesOf (a .tasks) → Gives r w (start (saidWith a (take n zs))) → Gives r w (freshOf a)
+gives-zero a zs n r w z e g = subst (Gives r w) (ap (λ (l : List ℕ). start (saidWith a (take n l))) z ∙ zero-start a n e) g

@@ -1,7 +1,8 @@
-// The fresh state that a first line says.
+// The fresh state that a first line says, in words that the caller lends.
 ghost use mathlib.Core.Path.{_≡_};
 ghost use lib.ListN.{replicate};
 ghost use Rattle.rules.specs.Runs.{start as startOf};
+ghost use Rattle.state.specs.View.{words};
 ghost use Rattle.fresh.specs.Starting.{Gives};
 ghost use Rattle.starting.specs.Said.{entriesOf, saidWith, freshOf};
 use fresh::Started;
@@ -9,14 +10,49 @@ use script::First;
 use script::Maker;
 
 // With starting clocks, row by row.
-pub fn start_with(a: First, clocks: &[u32]) -> Started
-    ensures { λ r. ⌜ Gives r (startOf (saidWith a (now (clocks .entry)))) ⌝ }
+pub fn start_with(
+    a: First,
+    starts: &[u32],
+    slots: &mut [u32; 320],
+    tasks: &mut [u32; 32],
+    sizes: &mut [u32; 64],
+    rows: &mut [u32; 1024],
+    last: &mut [u32; 16],
+    makers: &mut [u32; 512],
+    clocks: &mut [u32; 256],
+) -> Started
+    ensures { λ r. ⌜ Gives r (words (now (slots .exit)) (now (tasks .exit)) (now (sizes .exit)) (now (rows .exit)) (now (last .exit)) (now (makers .exit)) (now (clocks .exit))) (startOf (saidWith a (now (starts .entry)))) ⌝ }
 {
     let fairness = a.fairness;
     let maker = a.maker;
     match maker {
-        Maker::Task(t) => fresh::new(fairness, a.stock, a.tasks, clocks, t),
-        Maker::Nobody => fresh::const_new(fairness, a.stock, a.tasks, clocks),
+        Maker::Task(t) => fresh::new(
+            fairness,
+            a.stock,
+            a.tasks,
+            starts,
+            t,
+            slots,
+            tasks,
+            sizes,
+            rows,
+            last,
+            makers,
+            clocks,
+        ),
+        Maker::Nobody => fresh::const_new(
+            fairness,
+            a.stock,
+            a.tasks,
+            starts,
+            slots,
+            tasks,
+            sizes,
+            rows,
+            last,
+            makers,
+            clocks,
+        ),
     }
 }
 
@@ -38,10 +74,29 @@ fn zeros() -> [u32; 256]
 }
 
 // With clocks that are all zero.
-pub fn start(a: First) -> Started
-    ensures { λ r. ⌜ Gives r (freshOf a) ⌝ }
+pub fn start(
+    a: First,
+    slots: &mut [u32; 320],
+    tasks: &mut [u32; 32],
+    sizes: &mut [u32; 64],
+    rows: &mut [u32; 1024],
+    last: &mut [u32; 16],
+    makers: &mut [u32; 512],
+    clocks: &mut [u32; 256],
+) -> Started
+    ensures { λ r. ⌜ Gives r (words (now (slots .exit)) (now (tasks .exit)) (now (sizes .exit)) (now (rows .exit)) (now (last .exit)) (now (makers .exit)) (now (clocks .exit))) (freshOf a) ⌝ }
 {
-    let clocks = zeros();
+    let starts = zeros();
     let n = entries(a.tasks);
-    start_with(a, &clocks[..n])
+    start_with(
+        a,
+        &starts[..n],
+        slots,
+        tasks,
+        sizes,
+        rows,
+        last,
+        makers,
+        clocks,
+    )
 }

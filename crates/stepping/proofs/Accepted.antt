@@ -26,8 +26,8 @@ use Rattle.planning.specs.declared.Plan.{Plan}
 use Rattle.planning.specs.Plans.{Planned}
 use Rattle.doing.specs.Effects.{Able}
 use Rattle.doing.proofs.Allowing.{able}
-use Rattle.held.specs.declared.BatchSemaphore.{BatchSemaphore}
-use Rattle.held.specs.View.{Words, plainIn, keptIn, viewOf, Fit}
+use Rattle.state.specs.declared.BatchSemaphore.{BatchSemaphore}
+use Rattle.state.specs.View.{Words, plainIn, keptIn, viewOf, Fit}
 use Rattle.stepping.specs.Contract.{Taken}
 use Rattle.stepping.proofs.Composed.{sound-here, plain-accepts, able-here, outcome-here, fit-here}
 

@@ -15,8 +15,8 @@ use Rattle.head.specs.View.{plainOf}
 use Rattle.planning.specs.declared.Plan.{Plan}
 use Rattle.planning.specs.Plans.{Says, actorGrounds}
 use Rattle.times.specs.View.{refusalKept, keptOf}
-use Rattle.held.specs.declared.BatchSemaphore.{BatchSemaphore}
-use Rattle.held.specs.View.{Words, plainIn, keptIn}
+use Rattle.state.specs.declared.BatchSemaphore.{BatchSemaphore}
+use Rattle.state.specs.View.{Words, plainIn, keptIn}
 use Rattle.stepping.specs.Contract.{checkedAs, Checks}
 
 pub is-some : (o : Option ℕ) (b : Bool) → b ≡ not (isSome o) → not b ≡ true → isSome o ≡ true

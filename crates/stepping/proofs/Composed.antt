@@ -39,9 +39,9 @@ use Rattle.batches.specs.View.{standsIn}
 use Rattle.times.specs.View.{clocksOf, keptOf, refusalKept, changeOf, Able, Shows}
 use Rattle.times.proofs.Told.{refusal-kept, able-accepted, counted}
 use Rattle.times.proofs.Public.{whole-step}
-use Rattle.held.specs.declared.BatchSemaphore.{BatchSemaphore}
-use Rattle.held.specs.declared.Stepped.{Stepped}
-use Rattle.held.specs.View.{Words, plainIn, keptIn, viewOf, outcomeOf, Fit}
+use Rattle.state.specs.declared.BatchSemaphore.{BatchSemaphore}
+use Rattle.state.specs.declared.Stepped.{Stepped}
+use Rattle.state.specs.View.{Words, plainIn, keptIn, viewOf, outcomeOf, Fit}
 
 clocks-number : (n : ℕ) (xs : List ℕ) → length (clocksOf width n xs) ≡ n
 unfolding clocksOf

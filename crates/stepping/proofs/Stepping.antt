@@ -24,9 +24,9 @@ use Rattle.planning.specs.declared.Plan.{Plan}
 use Rattle.planning.specs.Plans.{actorGrounds, Planned}
 use Rattle.planning.proofs.Composing.{first-after}
 use Rattle.times.specs.View.{refusalKept}
-use Rattle.held.specs.declared.BatchSemaphore.{BatchSemaphore}
-use Rattle.held.specs.declared.Stepped.{Stepped}
-use Rattle.held.specs.View.{Words, plainIn, keptIn, viewOf, Fit}
+use Rattle.state.specs.declared.BatchSemaphore.{BatchSemaphore}
+use Rattle.state.specs.declared.Stepped.{Stepped}
+use Rattle.state.specs.View.{Words, plainIn, keptIn, viewOf, Fit}
 use Rattle.stepping.specs.Contract.{Refuses, NotAccepted, checkedAs, Checks, Taken, StepsOn}
 use Rattle.stepping.proofs.Composed.{refusal-both}
 use Rattle.stepping.proofs.Checked.{is-some, is-none}

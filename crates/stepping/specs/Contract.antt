@@ -15,9 +15,9 @@ use Rattle.replies.specs.Answers.{given, answerOf}
 use Rattle.planning.specs.declared.Plan.{Plan}
 use Rattle.planning.specs.Plans.{actorGrounds}
 use Rattle.times.specs.View.{refusalKept}
-use Rattle.held.specs.declared.BatchSemaphore.{BatchSemaphore}
-use Rattle.held.specs.declared.Stepped.{Stepped}
-use Rattle.held.specs.View.{Words, plainIn, keptIn, viewOf, outcomeOf, Fit}
+use Rattle.state.specs.declared.BatchSemaphore.{BatchSemaphore}
+use Rattle.state.specs.declared.Stepped.{Stepped}
+use Rattle.state.specs.View.{Words, plainIn, keptIn, viewOf, outcomeOf, Fit}
 
 -- A refusal returns its number, no grants, and the state exactly as it came in; the words of the grants stay as they were, too.
 pub record Refuses (n : ℕ) (s : BatchSemaphore) (w : Words) (gs : List ℕ) (r : Stepped) (v : Words) (hs : List ℕ) : Type 0 where

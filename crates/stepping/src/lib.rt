@@ -9,15 +9,15 @@ ghost use Rattle.rules.specs.Sizes.{maxTasks, width};
 ghost use Rattle.words.specs.View.{taskWords};
 ghost use Rattle.rules.specs.Refusals.{refusal};
 ghost use Rattle.planning.specs.Plans.{Planned};
-ghost use Rattle.held.specs.View.{words, plainIn, viewOf, Fit};
+ghost use Rattle.state.specs.View.{words, plainIn, viewOf, Fit};
 ghost use Rattle.stepping.specs.Contract.{NotAccepted, Checks, Taken, StepsOn};
-use held::BatchSemaphore;
-use held::Stepped;
 use planning::Plan;
 use replies::Check;
 use replies::Reply;
 use rules::Step;
 use rules::TaskId;
+use state::BatchSemaphore;
+use state::Stepped;
 
 // A step that was checked and not accepted.
 fn refuse(s: BatchSemaphore, c: Check) -> Stepped

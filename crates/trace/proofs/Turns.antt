@@ -1,110 +1,130 @@
--- From line to line: what stands in the buffer, with what is still to be printed.
+-- From line to line: a step taken and printed, and what is left to print.
 use Prim.Native.Nat.{ℕ, _+_, _*_, _-_, _≤_, _<_}
 use native.Mathlib.Omega.{arith}
 use mathlib.Core.Path.{_≡_, refl, ap, sym, subst, _∙_}
-use mathlib.Core.Bool.{true, false}
 use mathlib.Core.List.{List, [], _∷_, _++_, append-assoc, append-nil}
-use mathlib.Core.Option.{Option, none}
-use lib.ListN.{length, take, drop, length-take, length-drop}
+use mathlib.Core.Option.{Option, none, some}
+use lib.ListN.{length, drop}
 use Rattle.rules.specs.declared.Step.{Step}
 use Rattle.rules.specs.State.{State}
-use Rattle.rules.specs.Text.{Line, lines}
-use Rattle.rules.specs.Script.{stepOf, said, printing, trace}
-use Rattle.rules.proofs.Parts.{no-line}
+use Rattle.rules.specs.Sound.{Sound}
+use Rattle.rules.specs.Steps.{Outcome}
+use Rattle.rules.specs.Refusals.{refusal}
+use Rattle.rules.specs.Runs.{unless, step}
+use Rattle.rules.specs.Text.{lines}
+use Rattle.rules.specs.Script.{outcomeText, printing, trace}
 use Rattle.rules.proofs.Scripts.{trace-done}
-use Rattle.text.specs.Reading.{Within, NextIs}
-use Rattle.text.specs.declared.NextLine.{NextLine}
-use Rattle.text.specs.declared.NextLine.the-variants.{Ended, Unended, End}
-use Rattle.text.proofs.Buffer.{appended-first, appended-length}
+use Rattle.splitting.specs.Split.{forget, whole}
+use Rattle.tables.specs.Table.{table}
+use Rattle.text.specs.Writing.{Appended}
+use Rattle.text.proofs.Buffer.{appended-none, appended-length}
+use Rattle.replies.specs.Answers.{answerOf}
+use Rattle.words.specs.View.{grantsOf}
+use Rattle.head.specs.View.{plainOf}
 use Rattle.state.specs.declared.BatchSemaphore.{BatchSemaphore}
-use Rattle.state.specs.View.{view}
-use Rattle.printing.specs.Printed.{Printed}
+use Rattle.state.specs.declared.Stepped.{Stepped}
+use Rattle.state.specs.View.{Words, viewOf, outcomeOf, Fit}
+use Rattle.stepping.specs.Contract.{Refuses, StepsOn}
+use Rattle.script.specs.declared.Parsed.{Parsed}
+use Rattle.script.specs.declared.Parsed.the-variants.{Is, Bad}
+use Rattle.script.specs.Saying.{parsed}
+use Rattle.printing.specs.declared.Counts.{Counts}
+use Rattle.printing.specs.Printed.{lineRoom, Printed, lineText, ShownBy}
+use Rattle.printing.proofs.Chain.{printed-then, printed-longer}
+use Rattle.printing.proofs.Lines.{outcome-line}
+use Rattle.trace.specs.declared.ReadLine.{ReadLine}
 use Rattle.trace.specs.declared.Turn.{Turn}
-use Rattle.trace.specs.Running.{Turned, Onward, Behind}
+use Rattle.trace.specs.Running.{byteRoom, badRoom, saidRoom, SaysAt, Turned, Onward}
 
--- what is printed from a line on
-trace-line : (s : State) (l : Line) (ls : List Line) → trace s (l ∷ ls) ≡ printing (said stepOf l) s .text ++ trace (printing (said stepOf l) s .state) ls
-unfolding trace
-trace-line s l ls = refl
+-- what a head shows, its state shows
+shown : (c : Counts) (s : BatchSemaphore) (w : Words) → ((slots tasks : List ℕ) → ShownBy c (plainOf (s .head) slots tasks)) → ShownBy c (forget (viewOf s w))
+unfolding whole
+shown c s w h = let p = h (w .slots) (w .tasks) in record { available = p .available; stock = p .stock; closed = p .closed; queued = p .queued }
 
--- a text behind what stood there
-pub behind-printed : {k : ℕ} {old : List ℕ} {n : ℕ} {text new : List ℕ} {r : ℕ} → n + k ≤ length old → Printed k old n text new r → Behind old n text new r
-behind-printed h p =
-    let f = appended-first (p .written) (omega (arith, p .short)) in
-    let l = appended-length (p .written) (omega (arith, p .short)) in
-    record { stands = f; fits = omega (arith, p .written .end, p .short, l) }
+pub step-printed : (r : Stepped) (c : Counts) (gs old new : List ℕ) (n e : ℕ) → ((slots tasks : List ℕ) → ShownBy c (plainOf (r .state .head) slots tasks))
+    → Printed lineRoom old n (lineText (answerOf (r .reply)) c (grantsOf (r .count) gs)) new e
+    → (w : Words) → Printed lineRoom old n (outcomeText (outcomeOf r w gs)) new e
+step-printed r c gs old new n e h p w = rw (outcome-line (outcomeOf r w gs) c (shown c (r .state) w h)) at p
 
--- one line, and on to the next
-module _ (script old new : List ℕ) (at n k next : ℕ) (s : BatchSemaphore) (o : Option Step) (t : Turn) where
-  onward : (l : Line) → o ≡ said stepOf l → n + k ≤ length old → lines (drop at script) ≡ l ∷ lines (drop next script) → Turned k o s old n next new t
-      → take (t .end) new ++ trace (view (t .state)) (lines (drop (t .next) script)) ≡ take n old ++ trace (view s) (lines (drop at script))
-  onward l e h shows q =
-      let b = behind-printed h (q .printed) in
-      rw (q .onto, q .state, shows, trace-line (view s) l (lines (drop next script)), ← e, b .stands) (append-assoc (take n old) (printing o (view s) .text) (trace (printing o (view s) .state) (lines (drop next script))))
+-- A step that counts on what 14 does not refuse says and does what document 01's step says and does, refused or not.
+module _ (s : BatchSemaphore) (w : Words) (gs : List ℕ) (a : Step) (r : Stepped) (v : Words) (hs : List ℕ) where
+  refused-outcome : (n : ℕ) → Refuses n s w gs r v hs → outcomeOf r v hs ≡ unless (some n) a (viewOf s w)
+  unfolding grantsOf table
+  refused-outcome n k =
+      λ i. record { answer = k .answer i; grants = grantsOf (k .count i) hs; state = viewOf (k .state i) (k .words i) }
 
-  rest-fits : n + k + 45 * (length script - next) ≤ length old → Turned k o s old n next new t → t .end + 45 * (length script - t .next) ≤ length new
-  rest-fits h q =
-      let w = q .printed .written in
-      let l = appended-length w (omega (arith, q .printed .short)) in
-      omega (arith, w .end, q .printed .short, l, q .onto)
+  carried : StepsOn s w gs a r v hs → outcomeOf r v hs ≡ step a (viewOf s w)
+  unfolding step
+  carried h = go (refusal a (viewOf s w)) refl
+    where
+      go : (o : Option ℕ) → refusal a (viewOf s w) ≡ o → outcomeOf r v hs ≡ unless o a (viewOf s w)
+      go none e = h .accepted e
+      go (some n) e = refused-outcome n (h .refused n e)
 
-  turned-on : (l : Line) → o ≡ said stepOf l → lines (drop at script) ≡ l ∷ lines (drop next script) → n + k + 45 * (length script - next) ≤ length old → at < next → next ≤ length script
-      → Turned k o s old n next new t → Onward script at s old n new t
-  turned-on l e shows h a b q =
+-- a step taken, and a line that says none
+module _ {s : BatchSemaphore} {w : Words} {old new : List ℕ} {n e : ℕ} {gs : List ℕ} where
+  pub turned-step : {a : Step} {r : Stepped} {w′ : Words} {gs₀ : List ℕ} → StepsOn s w gs₀ a r w′ gs → ((v : Words) → Printed lineRoom old n (outcomeText (outcomeOf r v gs)) new e)
+      → Turned (Is a) s w old n (record { state = r .state; end = e }) w′ gs new
+  turned-step {a = a} {r = r} {w′ = w′} {gs₀ = gs₀} h p =
+      let c = carried s w gs₀ a r w′ gs h in
+      record { printed = rw c at (p w′); state = ap (λ (o : Outcome). o .state) c; fit = h .fit }
+
+  pub turned-bad : {p : Parsed} → p ≡ Bad → Fit s w gs → Appended old n (98 ∷ 97 ∷ 100 ∷ 10 ∷ []) new e → Turned p s w old n (record { state = s; end = e }) w gs new
+  turned-bad q f p = rw q (record { printed = record { written = p; short = omega arith }; state = refl; fit = f })
+
+pub turned-by : {p : Parsed} {a : Step} {s : BatchSemaphore} {w : Words} {old : List ℕ} {n : ℕ} {t : Turn} {w′ : Words} {gs new : List ℕ} → p ≡ Is a → Turned (Is a) s w old n t w′ gs new → Turned p s w old n t w′ gs new
+turned-by {s = s} {w = w} {old = old} {n = n} {t = t} {w′ = w′} {gs = gs} {new = new} e h = subst (λ (x : Parsed). Turned x s w old n t w′ gs new) (sym e) h
+
+-- room for a line by what it says
+pub step-room : (n m : ℕ) {p : Parsed} {a : Step} → p ≡ Is a → n + saidRoom p ≤ m → n + lineRoom ≤ m
+step-room n m e h = rw e at h
+
+pub bad-room : (n m : ℕ) {p : Parsed} → p ≡ Bad → n + saidRoom p ≤ m → n + badRoom ≤ m
+bad-room n m e h = rw e at h
+
+-- before the first turn
+pub onward-none : {script : List ℕ} {at : ℕ} {s : State} {old : List ℕ} {n : ℕ} → at ≤ length script → n + byteRoom * (length script - at) ≤ length old → Onward script at s old n at s old n
+onward-none {old = old} {n = n} h fits =
+    record {
+      text = [];
+      printed = record { written = appended-none old n; short = omega arith };
+      fits = fits;
+      left = refl;
+      on = omega arith;
+      within = h;
+    }
+
+-- from the lines printed so far
+module _ {script : List ℕ} {from : ℕ} {first : State} {old : List ℕ} {start at : ℕ} {s : State} {out : List ℕ} {n : ℕ} (o : Onward script from first old start at s out n) where
+  pub onward-length : length out ≡ length old
+  onward-length = appended-length (o .printed .written) (omega (arith, o .printed .short, o .fits, o .within))
+
+  -- there is room for the next line
+  pub line-room : (r : ReadLine) → SaysAt script at r → n + saidRoom (r .said) ≤ length out
+  line-room r is =
+      omega (arith, onward-length, o .printed .written .end, o .printed .short, o .fits, o .on, is .room, is .on, is .within)
+
+  -- one line more
+  pub onward-more : {r : ReadLine} {s′ : State} {new : List ℕ} {e : ℕ} → SaysAt script at r → Sound s → Printed (saidRoom (r .said)) out n (printing (parsed (r .said)) s .text) new e → s′ ≡ printing (parsed (r .said)) s .state
+      → Onward script from first old start (r .next) s′ new e
+  onward-more {r = r} is f p q =
       record {
-        whole = onward l e (omega arith) shows q;
-        room = rest-fits h q;
-        fit = q .fit;
-        on = omega (arith, q .onto);
-        within = omega (arith, q .onto);
+        text = o .text ++ printing (parsed (r .said)) s .text;
+        printed =
+            printed-longer (omega (arith, is .room, is .on, o .on))
+            (printed-then (byteRoom * (at - from)) (saidRoom (r .said)) (omega (arith, o .fits, o .within)) (o .printed) p);
+        fits = o .fits;
+        left =
+            rw q (append-assoc (o .text) (printing (parsed (r .said)) s .text) (trace (printing (parsed (r .said)) s .state) (lines (drop (r .next) script))))
+            ∙ ap (λ (l : List ℕ). o .text ++ l) (sym (is .traced s f))
+            ∙ o .left;
+        on = omega (arith, is .on, o .on);
+        within = is .within;
       }
 
--- a line's length
-module _ (script : List ℕ) (at e : ℕ) (a : at ≤ e) (b : e < length script) where
-  bytes-length : length (take (e - at) (drop at script)) ≡ e - at
-  bytes-length = rw (length-take, length-drop) (omega arith)
-
-  pub line-turned : (o : Option Step) (s : BatchSemaphore) (old new : List ℕ) (n next : ℕ) (t : Turn) → Turned (45 * (length (take (e - at) (drop at script)) + 1)) o s old n next new t → Turned (45 * (e + 1 - at)) o s old n next new t
-  line-turned o s old new n next t q =
-      let k : 45 * (length (take (e - at) (drop at script)) + 1) ≡ 45 * (e + 1 - at) = omega (arith, bytes-length) in
-      subst (λ (x : ℕ). Turned x o s old n next new t) k q
-
-pub ended-within : (script : List ℕ) (at : ℕ) (l : NextLine) → NextIs script at l → (e : ℕ) → l ≡ Ended e → (at ≤ e) × (e < length script)
-ended-within script at l is e p = subst (λ (x : NextLine). Within script at x) p (is .within)
-
-pub ended-before : (script : List ℕ) (at : ℕ) (l : NextLine) (e : ℕ) → NextIs script at l → l ≡ Ended e → e < length script
-ended-before script at l e is p = ended-within script at l is e p .1
-
--- the three ways that a line is found
-module _ (script old new : List ℕ) (at n : ℕ) (s : BatchSemaphore) (t : Turn) (l : NextLine) (is : NextIs script at l) (before : at < length script) (fits : n + 45 * (length script - at) ≤ length old) where
-  abbrev bytesTo : ℕ → List ℕ
-  bytesTo e = take (e - at) (drop at script)
-
-  pub ended-on : (e : ℕ) → l ≡ Ended e → Turned (45 * (e + 1 - at)) (stepOf (bytesTo e)) s old n (e + 1) new t → Onward script at s old n new t
-  ended-on e p q =
-      let w = ended-within script at l is e p in
-      turned-on script old new at n (45 * (e + 1 - at)) (e + 1) s (stepOf (bytesTo e)) t (record { content = bytesTo e; ended = true }) refl (rw p at is .shows) (omega arith) (omega arith) (omega arith) q
-
-  pub unended-on : l ≡ Unended → Turned 45 none s old n (length script) new t → Onward script at s old n new t
-  unended-on p q =
-      turned-on script old new at n 45 (length script) s none t (record { content = drop at script; ended = false }) refl (rw p at is .shows ∙ ap (λ (ls : List Line). record { content = drop at script; ended = false } ∷ ls) (sym nothing-left)) (omega arith) before (omega arith) q
-    where
-      nothing-left : lines (drop (length script) script) ≡ []
-      nothing-left = no-line script (length script) (omega arith)
-
--- before the end there is a line
-pub no-end : (script : List ℕ) (at : ℕ) (l : NextLine) → NextIs script at l → at < length script → l ≡ End → ⊥
-no-end script at l is h p = omega (arith, subst (λ (x : NextLine). Within script at x) p (is .within))
-
--- Texts one behind the other.
-pub behind-then : {old : List ℕ} {n : ℕ} {xs mid : List ℕ} {p : ℕ} {ys new : List ℕ} {r : ℕ} → Behind old n xs mid p → Behind mid p ys new r → Behind old n (xs ++ ys) new r
-behind-then {old} {n} {xs} {ys = ys} a b =
-    record { stands = b .stands ∙ rw (a .stands) (append-assoc (take n old) xs ys); fits = b .fits }
-
--- before the first turn, and behind the last
-module _ (script old out : List ℕ) (from start at n : ℕ) (first s : BatchSemaphore) where
-  pub turns-end : take n out ++ trace (view s) (lines (drop at script)) ≡ take start old ++ trace (view first) (lines (drop from script)) → n + 45 * (length script - at) ≤ length out → length script ≤ at
-      → Behind old start (trace (view first) (lines (drop from script))) out n
-  turns-end e h l =
-      let d : trace (view s) (lines (drop at script)) ≡ [] = trace-done (view s) script at l in
-      record { stands = sym (append-nil (take n out)) ∙ ap (λ (x : List ℕ). take n out ++ x) (sym d) ∙ e; fits = omega arith }
+  -- and behind the last
+  pub onward-ends : length script ≤ at → Printed (byteRoom * (length script - from)) old start (trace first (lines (drop from script))) out n
+  onward-ends l =
+      let d : o .text ≡ trace first (lines (drop from script)) =
+      sym (append-nil (o .text)) ∙ ap (λ (x : List ℕ). o .text ++ x) (sym (trace-done s script at l)) ∙ o .left in
+      rw d at (printed-longer {k = byteRoom * (length script - from)} (omega (arith, o .within)) (o .printed))

@@ -1,101 +1,163 @@
 // A script run: from its bytes to the bytes that are printed for it.
+ghost use mathlib.Core.Path.{_≡_};
 ghost use mathlib.Core.List.{_++_};
-ghost use mathlib.Core.Option.{none, some};
+ghost use mathlib.Core.Option.{some};
 ghost use Prim.Native.Nat.{_+_, _*_, _-_, _≤_, _<_};
 ghost use lib.ListN.{length, drop, take};
+ghost use Rattle.rules.specs.Sizes.{slotCount};
 ghost use Rattle.rules.specs.Text.{lines};
 ghost use Rattle.rules.specs.Script.{outcomeText, stepOf, startOf, trace as traced, traceFrom, program, printed};
-ghost use Rattle.state.specs.View.{view};
-ghost use Rattle.broken.specs.Broken.{Fit};
-ghost use Rattle.outcomes.specs.View.{outcomeOf};
-ghost use Rattle.printing.specs.Printed.{Printed};
+ghost use Rattle.state.specs.View.{Words, words, viewOf, outcomeOf, Fit};
+ghost use Rattle.script.specs.declared.Parsed.the-variants.{Is, Bad};
 ghost use Rattle.starting.specs.Said.{startSaid};
-ghost use Rattle.trace.specs.Running.{room, firstOf, Turned, Onward, Behind, Prints};
-use grants::Grants;
-use outcomes::Stepped;
+ghost use Rattle.printing.specs.Printed.{lineRoom, Printed};
+ghost use Rattle.trace.specs.Running.{byteRoom, room, saidRoom, firstOf, SaysTo, SaysAt, Turned, Prints};
 use replies::Reply;
 use rules::Step;
 use script::First;
 use script::Opening;
 use script::Parsed;
 use state::BatchSemaphore;
+use state::Stepped;
 use text::NextLine;
 
-// After a line: the state, where what it printed ends, and where the next line starts.
-pub struct Turn {
-    pub state: BatchSemaphore,
-    pub end: usize,
+// The most bytes that a script may have, and one more, which tells that it is too long.
+pub const LONGEST: usize = 65536;
+
+pub const INPUT: usize = LONGEST + 1;
+
+// Room in the buffer for each byte of a script: a step's line has at least 4 bytes and prints at most 180.
+pub const BYTE_ROOM: usize = 45;
+
+// Room for all that is read.
+pub const OUTPUT: usize = BYTE_ROOM * INPUT;
+
+// What a line says, and where the next line starts.
+pub struct ReadLine {
+    pub said: Parsed,
     pub next: usize,
 }
 
-// The line of a step that was taken.
-fn print_step(out: &mut [u8], n: usize, r: Stepped) -> usize
-    requires { ⌜ n + 180 ≤ length (now out) ⌝ }
-    ensures { λ e. ⌜ Printed 180 (now (out .entry)) n (outcomeText (outcomeOf r)) (now (out .exit)) e ⌝ }
-{
-    let reply = r.reply;
-    printing::print_line(out, n, reply, printing::counts_of(r.state), r.grants)
+// After a line: the state, and where what it printed ends.
+pub struct Turn {
+    pub state: BatchSemaphore,
+    pub end: usize,
 }
 
-// A step is taken and its line printed; `next` is where the next line starts.
-fn take_step(out: &mut [u8], n: usize, s: BatchSemaphore, a: Step, next: usize) -> Turn
-    requires { ⌜ (n + 180 ≤ length (now out)) × Fit s ⌝ }
-    ensures { λ t. ⌜ Turned 180 (some a) s (now (out .entry)) n next (now (out .exit)) t ⌝ }
+// What the bytes from a place to the line feed at e say.
+fn read_to(script: &[u8], at: usize, e: usize) -> ReadLine
+    requires { ⌜ (at ≤ e) × (e < length (now script)) ⌝ }
+    ensures { λ r. ⌜ SaysTo (now (script .entry)) at e r ⌝ }
 {
-    let r = semaphore::step(s, a);
-    let end = print_step(out, n, r);
-    let state = r.state;
-    Turn { state, end, next }
+    let said = script::step_of(&script[at..e]);
+    ReadLine { said, next: e + 1 }
 }
 
-// A line that is no step prints `bad` and changes nothing.
-fn print_bad(out: &mut [u8], n: usize, s: BatchSemaphore, next: usize) -> Turn
-    requires { ⌜ (n + 45 ≤ length (now out)) × Fit s ⌝ }
-    ensures { λ t. ⌜ Turned 45 none s (now (out .entry)) n next (now (out .exit)) t ⌝ }
+// A line that is not ended says nothing, and is the last.
+fn read_unended(script: &[u8]) -> ReadLine
+    ensures { λ r. ⌜ r ≡ record { said = Bad; next = length (now (script .entry)) } ⌝ }
 {
-    let end = text::put(out, n, b"bad\n");
-    Turn {
-        state: s,
-        end,
-        next,
+    ReadLine {
+        said: Parsed::Bad,
+        next: script.len(),
     }
 }
 
-// A line that a line feed ends.
-fn run_line(out: &mut [u8], n: usize, s: BatchSemaphore, line: &[u8], next: usize) -> Turn
-    requires { ⌜ (n + 45 * (length (now line) + 1) ≤ length (now out)) × Fit s ⌝ }
-    ensures { λ t. ⌜ Turned (45 * (length (now (line .entry)) + 1)) (stepOf (now (line .entry))) s (now (out .entry)) n next (now (out .exit)) t ⌝ }
-{
-    match script::step_of(line) {
-        Parsed::Is(a) => take_step(out, n, s, a, next),
-        Parsed::Bad => print_bad(out, n, s, next),
-    }
-}
-
-// The line from a place to the line feed at e.
-fn run_ended(
-    script: &[u8],
-    at: usize,
-    e: usize,
-    s: BatchSemaphore,
-    out: &mut [u8],
-    n: usize,
-) -> Turn
-    requires { ⌜ (at ≤ e) × (e < length (now script)) × (n + 45 * (e + 1 - at) ≤ length (now out)) × Fit s ⌝ }
-    ensures { λ t. ⌜ Turned (45 * (e + 1 - at)) (stepOf (take (e - at) (drop at (now (script .entry))))) s (now (out .entry)) n (e + 1) (now (out .exit)) t ⌝ }
-{
-    run_line(out, n, s, &script[at..e], e + 1)
-}
-
-// The line at a place, and on to the next.
-fn run_next(script: &[u8], at: usize, s: BatchSemaphore, out: &mut [u8], n: usize) -> Turn
-    requires { ⌜ (at < length (now script)) × (n + 45 * (length (now script) - at) ≤ length (now out)) × Fit s ⌝ }
-    ensures { λ t. ⌜ Onward (now (script .entry)) at s (now (out .entry)) n (now (out .exit)) t ⌝ }
+// What the line at a place says.
+fn read_line(script: &[u8], at: usize) -> ReadLine
+    requires { ⌜ at < length (now script) ⌝ }
+    ensures { λ r. ⌜ SaysAt (now (script .entry)) at r ⌝ }
 {
     match lines::line_at(script, at) {
-        NextLine::Ended(e) => run_ended(script, at, e, s, out, n),
-        NextLine::Unended => print_bad(out, n, s, script.len()),
-        NextLine::End => print_bad(out, n, s, script.len()),
+        NextLine::Ended(e) => read_to(script, at, e),
+        NextLine::Unended => read_unended(script),
+        NextLine::End => read_unended(script),
+    }
+}
+
+// The line of a step that was taken.
+fn print_step(out: &mut [u8], n: usize, r: Stepped, grants: &[u32]) -> usize
+    requires { ⌜ (r .count ≤ slotCount) × (length (now grants) ≡ slotCount * 3) × (n + lineRoom ≤ length (now out)) ⌝ }
+    ensures { λ e. ⌜ ((w : Words) → Printed lineRoom (now (out .entry)) n (outcomeText (outcomeOf r w (now (grants .entry)))) (now (out .exit)) e) ⌝ }
+{
+    let reply = r.reply;
+    let state = r.state;
+    let c = printing::counts_of(state.head);
+    printing::print_line(out, n, reply, c, grants, r.count)
+}
+
+// A step is taken and its line printed.
+fn take_step(
+    out: &mut [u8],
+    n: usize,
+    s: BatchSemaphore,
+    slots: &mut [u32],
+    tasks: &mut [u32],
+    sizes: &mut [u32],
+    rows: &mut [u32],
+    last: &mut [u32],
+    makers: &mut [u32],
+    clocks: &mut [u32],
+    grants: &mut [u32],
+    a: Step,
+) -> Turn
+    requires { ⌜ (n + lineRoom ≤ length (now out)) × Fit s (words (now slots) (now tasks) (now sizes) (now rows) (now last) (now makers) (now clocks)) (now grants) ⌝ }
+    ensures { λ t. ⌜ Turned (Is a) s (words (now (slots .entry)) (now (tasks .entry)) (now (sizes .entry)) (now (rows .entry)) (now (last .entry)) (now (makers .entry)) (now (clocks .entry))) (now (out .entry)) n t (words (now (slots .exit)) (now (tasks .exit)) (now (sizes .exit)) (now (rows .exit)) (now (last .exit)) (now (makers .exit)) (now (clocks .exit))) (now (grants .exit)) (now (out .exit)) ⌝ }
+{
+    let r = stepping::step_on(
+        s,
+        slots,
+        tasks,
+        sizes,
+        rows,
+        last,
+        makers,
+        clocks,
+        grants,
+        a,
+    );
+    let end = print_step(out, n, r, grants);
+    let state = r.state;
+    Turn { state, end }
+}
+
+// A line is run: a step, or one that says none, which prints `bad` and changes nothing.
+fn run_line(
+    out: &mut [u8],
+    n: usize,
+    s: BatchSemaphore,
+    slots: &mut [u32],
+    tasks: &mut [u32],
+    sizes: &mut [u32],
+    rows: &mut [u32],
+    last: &mut [u32],
+    makers: &mut [u32],
+    clocks: &mut [u32],
+    grants: &mut [u32],
+    said: Parsed,
+) -> Turn
+    requires { ⌜ (n + saidRoom said ≤ length (now out)) × Fit s (words (now slots) (now tasks) (now sizes) (now rows) (now last) (now makers) (now clocks)) (now grants) ⌝ }
+    ensures { λ t. ⌜ Turned said s (words (now (slots .entry)) (now (tasks .entry)) (now (sizes .entry)) (now (rows .entry)) (now (last .entry)) (now (makers .entry)) (now (clocks .entry))) (now (out .entry)) n t (words (now (slots .exit)) (now (tasks .exit)) (now (sizes .exit)) (now (rows .exit)) (now (last .exit)) (now (makers .exit)) (now (clocks .exit))) (now (grants .exit)) (now (out .exit)) ⌝ }
+{
+    match said {
+        Parsed::Is(a) => take_step(
+            out,
+            n,
+            s,
+            slots,
+            tasks,
+            sizes,
+            rows,
+            last,
+            makers,
+            clocks,
+            grants,
+            a,
+        ),
+        Parsed::Bad => {
+            let end = text::put(out, n, b"bad\n");
+            Turn { state: s, end }
+        }
     }
 }
 
@@ -103,51 +165,136 @@ fn run_next(script: &[u8], at: usize, s: BatchSemaphore, out: &mut [u8], n: usiz
 fn run_lines(
     script: &[u8],
     from: usize,
-    first: BatchSemaphore,
     out: &mut [u8],
     start: usize,
+    first: BatchSemaphore,
+    slots: &mut [u32],
+    tasks: &mut [u32],
+    sizes: &mut [u32],
+    rows: &mut [u32],
+    last: &mut [u32],
+    makers: &mut [u32],
+    clocks: &mut [u32],
+    grants: &mut [u32],
 ) -> usize
-    requires { ⌜ (from ≤ length (now script)) × (start + 45 * (length (now script) - from) ≤ length (now out)) × Fit first ⌝ }
-    ensures { λ r. ⌜ Behind (now (out .entry)) start (traced (view first) (lines (drop from (now (script .entry))))) (now (out .exit)) r ⌝ }
+    requires { ⌜ (from ≤ length (now script)) × (start + byteRoom * (length (now script) - from) ≤ length (now out)) × Fit first (words (now slots) (now tasks) (now sizes) (now rows) (now last) (now makers) (now clocks)) (now grants) ⌝ }
+    ensures { λ r. ⌜ Printed (byteRoom * (length (now (script .entry)) - from)) (now (out .entry)) start (traced (viewOf first (words (now (slots .entry)) (now (tasks .entry)) (now (sizes .entry)) (now (rows .entry)) (now (last .entry)) (now (makers .entry)) (now (clocks .entry)))) (lines (drop from (now (script .entry))))) (now (out .exit)) r ⌝ }
 {
     let mut at = from;
     let mut s = first;
     let mut n = start;
     while at < script.len() {
-        let t = run_next(script, at, s, out, n);
+        let l = read_line(script, at);
+        let said = l.said;
+        let t = run_line(
+            out,
+            n,
+            s,
+            slots,
+            tasks,
+            sizes,
+            rows,
+            last,
+            makers,
+            clocks,
+            grants,
+            said,
+        );
         let state = t.state;
         s = state;
         n = t.end;
-        at = t.next;
+        at = l.next;
     }
     n
 }
 
 // An accepted first line, and the lines behind it.
-fn run_fresh(script: &[u8], from: usize, s: BatchSemaphore, out: &mut [u8]) -> usize
-    requires { ⌜ (from ≤ length (now script)) × (180 + 45 * (length (now script) - from) ≤ length (now out)) × Fit s ⌝ }
-    ensures { λ r. ⌜ Behind (now (out .entry)) 0 (firstOf (view s) ++ traced (view s) (lines (drop from (now (script .entry))))) (now (out .exit)) r ⌝ }
+fn run_fresh(
+    script: &[u8],
+    from: usize,
+    out: &mut [u8],
+    s: BatchSemaphore,
+    slots: &mut [u32],
+    tasks: &mut [u32],
+    sizes: &mut [u32],
+    rows: &mut [u32],
+    last: &mut [u32],
+    makers: &mut [u32],
+    clocks: &mut [u32],
+    grants: &mut [u32],
+) -> usize
+    requires { ⌜ (from ≤ length (now script)) × (lineRoom + byteRoom * (length (now script) - from) ≤ length (now out)) × Fit s (words (now slots) (now tasks) (now sizes) (now rows) (now last) (now makers) (now clocks)) (now grants) ⌝ }
+    ensures { λ r. ⌜ Printed (lineRoom + byteRoom * (length (now (script .entry)) - from)) (now (out .entry)) 0 (firstOf (viewOf s (words (now (slots .entry)) (now (tasks .entry)) (now (sizes .entry)) (now (rows .entry)) (now (last .entry)) (now (makers .entry)) (now (clocks .entry)))) ++ traced (viewOf s (words (now (slots .entry)) (now (tasks .entry)) (now (sizes .entry)) (now (rows .entry)) (now (last .entry)) (now (makers .entry)) (now (clocks .entry)))) (lines (drop from (now (script .entry))))) (now (out .exit)) r ⌝ }
 {
-    let n = printing::print_line(out, 0, Reply::Done, printing::counts_of(s), Grants::none());
-    run_lines(script, from, s, out, n)
+    let first = Stepped {
+        reply: Reply::Done,
+        count: 0,
+        state: s,
+    };
+    let n = print_step(out, 0, first, grants);
+    run_lines(
+        script,
+        from,
+        out,
+        n,
+        s,
+        slots,
+        tasks,
+        sizes,
+        rows,
+        last,
+        makers,
+        clocks,
+        grants,
+    )
 }
 
-// A first line that says a start, and the lines behind it.
+// A first line that says a start, and the lines behind it: here the state's arrays are made.
 fn run_from(script: &[u8], from: usize, a: First, out: &mut [u8]) -> usize
-    requires { ⌜ (from ≤ length (now script)) × (180 + 45 * (length (now script) - from) ≤ length (now out)) ⌝ }
-    ensures { λ r. ⌜ Behind (now (out .entry)) 0 (traceFrom (some (startSaid a)) (lines (drop from (now (script .entry))))) (now (out .exit)) r ⌝ }
+    requires { ⌜ (from ≤ length (now script)) × (lineRoom + byteRoom * (length (now script) - from) ≤ length (now out)) ⌝ }
+    ensures { λ r. ⌜ Printed (lineRoom + byteRoom * (length (now (script .entry)) - from)) (now (out .entry)) 0 (traceFrom (some (startSaid a)) (lines (drop from (now (script .entry))))) (now (out .exit)) r ⌝ }
 {
-    let r = starting::start(a);
+    let mut slots = [0u32; 320];
+    let mut tasks = [0u32; 32];
+    let mut sizes = [0u32; 64];
+    let mut rows = [0u32; 1024];
+    let mut last = [0u32; 16];
+    let mut makers = [0u32; 512];
+    let mut clocks = [0u32; 256];
+    let mut grants = [0u32; 96];
+    let r = starting::start(
+        a,
+        &mut slots,
+        &mut tasks,
+        &mut sizes,
+        &mut rows,
+        &mut last,
+        &mut makers,
+        &mut clocks,
+    );
     if r.refused {
         return text::put(out, 0, b"r12\n");
     }
-    run_fresh(script, from, r.state, out)
+    run_fresh(
+        script,
+        from,
+        out,
+        r.state,
+        &mut slots,
+        &mut tasks,
+        &mut sizes,
+        &mut rows,
+        &mut last,
+        &mut makers,
+        &mut clocks,
+        &mut grants,
+    )
 }
 
 // The first line, which ends at e, and the lines behind it.
 fn run_first(script: &[u8], e: usize, out: &mut [u8]) -> usize
     requires { ⌜ (e < length (now script)) × (room (now script) ≤ length (now out)) ⌝ }
-    ensures { λ r. ⌜ Behind (now (out .entry)) 0 (traceFrom (startOf (take e (now (script .entry)))) (lines (drop (e + 1) (now (script .entry))))) (now (out .exit)) r ⌝ }
+    ensures { λ r. ⌜ Printed (room (now (script .entry))) (now (out .entry)) 0 (traceFrom (startOf (take e (now (script .entry)))) (lines (drop (e + 1) (now (script .entry))))) (now (out .exit)) r ⌝ }
 {
     match script::start_of(&script[..e]) {
         Opening::Is(a) => run_from(script, e + 1, a, out),
@@ -158,7 +305,7 @@ fn run_first(script: &[u8], e: usize, out: &mut [u8]) -> usize
 // A script of any length that fits.
 fn run_whole(script: &[u8], out: &mut [u8]) -> usize
     requires { ⌜ room (now script) ≤ length (now out) ⌝ }
-    ensures { λ r. ⌜ Behind (now (out .entry)) 0 (program (lines (now (script .entry)))) (now (out .exit)) r ⌝ }
+    ensures { λ r. ⌜ Printed (room (now (script .entry))) (now (out .entry)) 0 (program (lines (now (script .entry)))) (now (out .exit)) r ⌝ }
 {
     match lines::line_at(script, 0) {
         NextLine::Ended(e) => run_first(script, e, out),
@@ -167,12 +314,12 @@ fn run_whole(script: &[u8], out: &mut [u8]) -> usize
     }
 }
 
-// A script of any length, with 45 bytes of room for each of its bytes.
+// A script of any length, with room for what it prints.
 fn run_in(script: &[u8], out: &mut [u8]) -> usize
     requires { ⌜ room (now script) ≤ length (now out) ⌝ }
-    ensures { λ r. ⌜ Behind (now (out .entry)) 0 (printed (now (script .entry))) (now (out .exit)) r ⌝ }
+    ensures { λ r. ⌜ Printed (room (now (script .entry))) (now (out .entry)) 0 (printed (now (script .entry))) (now (out .exit)) r ⌝ }
 {
-    if 65536 < script.len() {
+    if LONGEST < script.len() {
         return text::put(out, 0, b"long\n");
     }
     run_whole(script, out)
@@ -183,7 +330,7 @@ fn run_in(script: &[u8], out: &mut [u8]) -> usize
 pub fn run(script: &[u8], out: &mut [u8]) -> usize
     ensures { λ r. ⌜ Prints (now (script .entry)) (now (out .entry)) (now (out .exit)) r ⌝ }
 {
-    if out.len() / 45 < script.len() {
+    if out.len() / BYTE_ROOM < script.len() {
         return 0;
     }
     run_in(script, out)

@@ -1,3 +1,4 @@
+-- The sizes, one test after the other.
 use native.Mathlib.Nat.{mul-le-mul}
 use native.Mathlib.Omega.{arith}
 use borrow.Author.Tests.{eq-eqb, ne-eqb, lt-ltb, le-ltb}
@@ -12,7 +13,7 @@ returns-2 c = simp (ne-eqb _ _ (c .before .if1 .left), lt-ltb _ _ (c .if2 .taken
 
 mul-result : tie.Need-mul-result
 mul-result c =
-    let t = c .before .before .args .tasks in
+    let t = c .before .before .args .count in
     record { fits = omega (arith, mul-le-mul {n₁ = t} {m₁ = t} {n₂ = 16} {m₂ = 16} (omega arith) (omega arith)) }
 
 returns-3 : tie.Need-returns-3

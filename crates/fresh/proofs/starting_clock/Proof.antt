@@ -1,3 +1,4 @@
+-- An entry a turn, over the empty clock.
 use Prim.Native.Nat.{_-_, _≤_}
 use mathlib.Core.Path.{_≡_}
 use mathlib.Core.List.{_++_}
@@ -11,10 +12,10 @@ use Rattle.fresh.proofs.starting_clock.Statement.{statement}
 use Rattle.fresh.proofs.starting_clock.Tie as tie
 
 abbrev Inv-loop : tie.InvT-loop
-Inv-loop clocks base n out₀ j₀ out j = (j ≤ n) × (out .0 ≡ take j (drop base clocks) ++ empty (width - j))
+Inv-loop starts base n out₀ j₀ out j = (j ≤ n) × (out .0 ≡ take j (drop base starts) ++ empty (width - j))
 
 abbrev μ-loop : tie.MeasureT-loop
-μ-loop clocks base n out₀ j₀ out j = n - j
+μ-loop starts base n out₀ j₀ out j = n - j
 
 new-requires : tie.Need-new-requires Inv-loop μ-loop
 new-requires c κs = search needs
@@ -48,7 +49,7 @@ loop-again c =
     let b = c .before .before in
     let a = b .before .before .before .args in
     let v = b .loop .inv in
-    (omega arith, rw (v .1) (entry-more (a .clocks .now) (a .base) (b .loop .j) width (omega arith) (omega arith)))
+    (omega arith, rw (v .1) (entry-more (a .starts .now) (a .base) (b .loop .j) width (omega arith) (omega arith)))
 
 returns : tie.Need-returns Inv-loop μ-loop
 returns c =

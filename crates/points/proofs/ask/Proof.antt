@@ -1,42 +1,34 @@
--- The actor, then the question; then whether a point comes.
-use mathlib.Core.Path.{_∙_}
+-- The actor, then the question.
+use Rattle.points.proofs.Asking.{actor-refused, actor-accepted}
 use borrow.Author.Needs.{needs}
-use Rattle.state.specs.View.{view}
-use Rattle.refusals.proofs.Composing.{in-turn, by-actor}
-use Rattle.points.proofs.Asking.{asked}
 use Rattle.points.proofs.ask.Statement.{statement}
 use Rattle.points.proofs.ask.Tie as tie
 
 check-actor-requires : tie.Need-check-actor-requires
 check-actor-requires c κs = search needs
 
-check-question-requires : tie.Need-check-question-requires
-check-question-requires c κs = search needs
+enum-told : tie.Need-enum-told
+enum-told c = search needs
 
-first-of-requires : tie.Need-first-of-requires
-first-of-requires c κs = search needs
+ask-runnable-requires : tie.Need-ask-runnable-requires
+ask-runnable-requires c κs = search needs
 
-comes-requires : tie.Need-comes-requires
-comes-requires c κs = search needs
-
-tell-requires : tie.Need-tell-requires
-tell-requires c κs = search needs
+enum-known-actor : tie.Need-enum-known-actor
+enum-known-actor c = search needs
 
 returns : tie.Need-returns
-returns c =
-    let question-at = c .before .before .before in
-    let actor-at = question-at .before in
-    let a = actor-at .before .args in
-    c .tell .ensures
-    ∙ asked _ _ (a .me) (a .q) (view (a .s)) (in-turn (by-actor (actor-at .check-actor .ensures)) (question-at .check-question .ensures) (c .before .before .first-of .ensures)) (c .before .comes .ensures)
+returns c = search (actor-accepted, needs)
+
+returns-2 : tie.Need-returns-2
+returns-2 c = search (actor-refused, needs)
 
 pub ask-spec : {M : Type 1} → statement M
 ask-spec =
     tie.close
     (tie.spec
     check-actor-requires
-    check-question-requires
-    first-of-requires
-    comes-requires
-    tell-requires
-    returns)
+    enum-told
+    ask-runnable-requires
+    enum-known-actor
+    returns
+    returns-2)

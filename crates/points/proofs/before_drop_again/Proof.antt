@@ -1,8 +1,6 @@
--- Where the first question says no.
-use mathlib.Core.Path.{sym, _∙_}
-use borrow.Author.Needs.{needs}
-use Rattle.state.specs.View.{view}
+-- Not while it waits.
 use Rattle.points.proofs.Asking.{waits-first, neither-waits}
+use borrow.Author.Needs.{needs}
 use Rattle.points.proofs.before_drop_again.Statement.{statement}
 use Rattle.points.proofs.before_drop_again.Tie as tie
 
@@ -10,20 +8,13 @@ waits-requires : tie.Need-waits-requires
 waits-requires c κs = search needs
 
 returns : tie.Need-returns
-returns c = waits-first (c .before .before .args .x) (view (c .before .before .args .s)) (sym (c .before .waits .ensures) ∙ c .if1 .taken)
-
-request-requires : tie.Need-request-requires
-request-requires c κs = search needs
+returns c = search (waits-first, needs)
 
 both-requires : tie.Need-both-requires
 both-requires c κs = search needs
 
 returns-2 : tie.Need-returns-2
-returns-2 c =
-    let waits-at = c .before .before .before in
-    let a = waits-at .before .before .args in
-    c .both .ensures ∙ neither-waits (a .x) (view (a .s)) _ (c .before .before .request .ensures .request) (sym (waits-at .before .waits .ensures) ∙ waits-at .if1 .left)
+returns-2 c = search (neither-waits, needs)
 
 pub before-drop-again-spec : {M : Type 1} → statement M
-before-drop-again-spec =
-    tie.close (tie.spec waits-requires returns request-requires both-requires returns-2)
+before-drop-again-spec = tie.close (tie.spec waits-requires returns both-requires returns-2)

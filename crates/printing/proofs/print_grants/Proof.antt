@@ -1,13 +1,8 @@
 -- `printing::print_grants`: a dash, or the takers.
 use borrow.Author.Needs.{needs}
-use Rattle.grants.specs.View.{grantsOf}
-use Rattle.rules.proofs.Places.{unmap}
 use Rattle.printing.proofs.Takers.{none-granted, some-granted}
 use Rattle.printing.proofs.print_grants.Statement.{statement}
 use Rattle.printing.proofs.print_grants.Tie as tie
-
-standing-requires : tie.Need-standing-requires
-standing-requires c κs = search needs
 
 slice-aggregate-put : tie.Need-slice-aggregate-put
 slice-aggregate-put c = search needs
@@ -19,7 +14,6 @@ same-length : tie.Need-same-length
 same-length c = search needs
 
 returns : tie.Need-returns
-unfolding grantsOf
 returns c = search (none-granted, needs)
 
 print-takers-requires : tie.Need-print-takers-requires
@@ -29,14 +23,12 @@ same-length-2 : tie.Need-same-length-2
 same-length-2 c = search needs
 
 returns-2 : tie.Need-returns-2
-unfolding grantsOf
-returns-2 c = search (some-granted, needs, unmap)
+returns-2 c = search (some-granted, needs)
 
 pub print-grants-spec : {M : Type 1} → statement M
 print-grants-spec =
     tie.close
     (tie.spec
-    standing-requires
     slice-aggregate-put
     put-requires
     same-length

@@ -1,30 +1,33 @@
 -- `printing::print_rest`: the takers up to the place reached are written.
 use Prim.Native.Nat.{_≤_, _<_, _*_, _-_}
-use mathlib.Core.Path.{_≡_, refl}
+use mathlib.Core.Path.{_≡_}
 use borrow.Author.Needs.{needs}
-use native.Mathlib.Omega.{arith}
-use lib.ListN.{length, take}
-use Rattle.rules.proofs.Places.{unmap}
-use Rattle.printing.specs.Printed.{Printed, restText}
+use lib.ListN.{length}
+use Rattle.rules.specs.Sizes.{slotCount}
+use Rattle.words.specs.View.{grantsOf}
+use Rattle.printing.specs.Printed.{nextRoom, restRoom, Printed, restText}
 use Rattle.printing.proofs.Takers.{rest-starts, rest-goes-on, rest-ends}
 use Rattle.printing.proofs.print_rest.Statement.{statement}
 use Rattle.printing.proofs.print_rest.Tie as tie
 
 abbrev Inv-loop : tie.InvT-loop
-Inv-loop buf₀ at n items p₀ i₀ buf p i =
-    (0 < i) × (i ≤ n) × (length buf ≡ length buf₀) × Printed (4 * (i - 1)) buf₀ at (restText (take i items)) buf p
+Inv-loop buf₀ at grants n p₀ i₀ buf p i =
+    (0 < i) × (i ≤ n) × (length buf ≡ length buf₀) × Printed (nextRoom * (i - 1)) buf₀ at (restText (grantsOf i grants)) buf p
 
 abbrev μ-loop : tie.MeasureT-loop
-μ-loop buf₀ at n items p₀ i₀ buf p i = n - i
+μ-loop buf₀ at grants n p₀ i₀ buf p i = n - i
 
 loop-holds : tie.Need-loop-holds Inv-loop μ-loop
-loop-holds c = (search needs, search needs, refl, search (rest-starts, needs))
+loop-holds c = search (rest-starts, needs)
 
-mul-g : tie.Need-mul-g Inv-loop μ-loop
-mul-g c = search needs
+mul-taker : tie.Need-mul-taker Inv-loop μ-loop
+mul-taker c = search needs
 
-array-copy-out-g : tie.Need-array-copy-out-g Inv-loop μ-loop
-array-copy-out-g c = search needs
+mul-taker-2 : tie.Need-mul-taker-2 Inv-loop μ-loop
+mul-taker-2 c = search needs
+
+shared-slice-read-taker : tie.Need-shared-slice-read-taker Inv-loop μ-loop
+shared-slice-read-taker c = search needs
 
 print-next-requires : tie.Need-print-next-requires Inv-loop μ-loop
 print-next-requires c κs = search needs
@@ -36,15 +39,7 @@ loop-less : tie.Need-loop-less Inv-loop μ-loop
 loop-less c = search needs
 
 loop-again : tie.Need-loop-again Inv-loop μ-loop
-loop-again c =
-    let l = c .before .before .before .before .before .before .loop in
-    let a = c .before .before .before .before .before .before .before .before .args in
-    let n : length (a .t3) ≡ 32 = search (needs, unmap) in (
-      search needs,
-      search needs,
-      search needs,
-      rest-goes-on (a .buf .now) (l .buf) _ (a .at) (l .p) _ (l .i) (a .t3) _ (search needs) (l .inv .0) (omega arith) n (l .inv .3) (c .before .before .print-next .ensures),
-    )
+loop-again c = search (rest-goes-on, needs)
 
 same-length : tie.Need-same-length Inv-loop μ-loop
 same-length c = search needs
@@ -59,8 +54,9 @@ print-rest-spec =
     Inv-loop
     μ-loop
     loop-holds
-    mul-g
-    array-copy-out-g
+    mul-taker
+    mul-taker-2
+    shared-slice-read-taker
     print-next-requires
     add-i
     loop-less

@@ -1,12 +1,11 @@
 -- `printing::print_takers`: the first taker, then the rest.
 use borrow.Author.Needs.{needs}
-use Rattle.rules.proofs.Places.{unmap}
 use Rattle.printing.proofs.Takers.{takers-printed}
 use Rattle.printing.proofs.print_takers.Statement.{statement}
 use Rattle.printing.proofs.print_takers.Tie as tie
 
-array-copy-out-g : tie.Need-array-copy-out-g
-array-copy-out-g c = search needs
+shared-slice-read-taker : tie.Need-shared-slice-read-taker
+shared-slice-read-taker c = search needs
 
 print-taker-requires : tie.Need-print-taker-requires
 print-taker-requires c κs = search needs
@@ -18,9 +17,9 @@ same-length : tie.Need-same-length
 same-length c = search needs
 
 returns : tie.Need-returns
-returns c = search (takers-printed, needs, unmap)
+returns c = search (takers-printed, needs)
 
 pub print-takers-spec : {M : Type 1} → statement M
 print-takers-spec =
     tie.close
-    (tie.spec array-copy-out-g print-taker-requires print-rest-requires same-length returns)
+    (tie.spec shared-slice-read-taker print-taker-requires print-rest-requires same-length returns)

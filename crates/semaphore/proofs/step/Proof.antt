@@ -1,157 +1,113 @@
--- A step is the call that it names.
-use mathlib.Core.Path.{sym, subst}
-use Rattle.rules.specs.declared.Act.{Act}
-use Rattle.rules.specs.Steps.{_does_}
-use Rattle.semaphore.specs.Contract.{Steps}
+-- Broken, or a step of a fit state.
+use mathlib.Core.Path.{refl}
+use Rattle.state.specs.View.{Words, words}
+use Rattle.semaphore.proofs.Judged.{steps-broken, steps-fit}
 use borrow.Author.Needs.{needs}
 use Rattle.semaphore.proofs.step.Statement.{statement}
 use Rattle.semaphore.proofs.step.Tie as tie
 
-enum-known-act : tie.Need-enum-known-act
-enum-known-act c = search needs
+-- where the function began, and the words that it was lent
+abbrev begun : tie.After-is-broken → tie.Start
+begun c = c .before .before .before .before .before .before .before .before .before .before .before .before .before .before .before .before .before
 
-acquire-requires : tie.Need-acquire-requires
-acquire-requires c κs = search needs
+abbrev lent : tie.Start → Words
+lent z = words (z .args .slots .now) (z .args .tasks .now) (z .args .sizes .now) (z .args .rows .now) (z .args .last .now) (z .args .makers .now) (z .args .clocks .now)
 
-enum-known-act-2 : tie.Need-enum-known-act-2
-enum-known-act-2 c = search needs
+is-broken-requires : tie.Need-is-broken-requires
+is-broken-requires c κs = search needs
 
-acquire-bypassable-requires : tie.Need-acquire-bypassable-requires
-acquire-bypassable-requires c κs = search needs
+same-length : tie.Need-same-length
+same-length c = search needs
 
-enum-known-act-3 : tie.Need-enum-known-act-3
-enum-known-act-3 c = search needs
+same-length-2 : tie.Need-same-length-2
+same-length-2 c = search needs
 
-acquire-reserving-requires : tie.Need-acquire-reserving-requires
-acquire-reserving-requires c κs = search needs
+same-length-3 : tie.Need-same-length-3
+same-length-3 c = search needs
 
-enum-known-act-4 : tie.Need-enum-known-act-4
-enum-known-act-4 c = search needs
+same-length-4 : tie.Need-same-length-4
+same-length-4 c = search needs
 
-upgrade-requires : tie.Need-upgrade-requires
-upgrade-requires c κs = search needs
+same-length-5 : tie.Need-same-length-5
+same-length-5 c = search needs
 
-enum-known-act-5 : tie.Need-enum-known-act-5
-enum-known-act-5 c = search needs
+same-length-6 : tie.Need-same-length-6
+same-length-6 c = search needs
 
-poll-requires : tie.Need-poll-requires
-poll-requires c κs = search needs
+same-length-7 : tie.Need-same-length-7
+same-length-7 c = search needs
 
-enum-known-act-6 : tie.Need-enum-known-act-6
-enum-known-act-6 c = search needs
-
-try-acquire-requires : tie.Need-try-acquire-requires
-try-acquire-requires c κs = search needs
-
-enum-known-act-7 : tie.Need-enum-known-act-7
-enum-known-act-7 c = search needs
-
-try-upgrade-requires : tie.Need-try-upgrade-requires
-try-upgrade-requires c κs = search needs
-
-enum-known-act-8 : tie.Need-enum-known-act-8
-enum-known-act-8 c = search needs
-
-release-requires : tie.Need-release-requires
-release-requires c κs = search needs
-
-enum-known-act-9 : tie.Need-enum-known-act-9
-enum-known-act-9 c = search needs
-
-drop-requires : tie.Need-drop-requires
-drop-requires c κs = search needs
-
-enum-told : tie.Need-enum-told
-enum-told c = search needs
-
-close-requires : tie.Need-close-requires
-close-requires c κs = search needs
-
-enum-told-2 : tie.Need-enum-told-2
-enum-told-2 c = search needs
-
-sleep-requires : tie.Need-sleep-requires
-sleep-requires c κs = search needs
-
-enum-told-3 : tie.Need-enum-told-3
-enum-told-3 c = search needs
-
-finish-requires : tie.Need-finish-requires
-finish-requires c κs = search needs
+same-length-8 : tie.Need-same-length-8
+same-length-8 c = search needs
 
 returns : tie.Need-returns
-returns c = subst (λ (b : Act). Steps (c .before .before .before .before .before .args .s) (c .before .before .before .before .before .args .a .actor does b) (c .acquire .result)) (sym (c .before .before .act .given .1)) (c .acquire .ensures)
+returns c =
+    let z = begun (c .before) in
+    steps-broken (z .args .s) (lent z) (z .args .grants .now) (z .args .a) _ (c .before .is-broken .result) (c .before .is-broken .ensures) (c .if1 .taken)
+    (record { answer = refl; count = refl; state = refl; words = refl; grants = refl })
+
+-- after 14 did not refuse
+abbrev on : tie.After-step-on-arg8 → tie.Else1
+on c = c .before .before .before .before .before .before .before .before
+
+step-on-requires : tie.Need-step-on-requires
+step-on-requires c κs = let e = on c in e .before .is-broken .ensures .fit (e .if1 .left)
+
+same-length-9 : tie.Need-same-length-9
+same-length-9 c = search needs
+
+same-length-10 : tie.Need-same-length-10
+same-length-10 c = search needs
+
+same-length-11 : tie.Need-same-length-11
+same-length-11 c = search needs
+
+same-length-12 : tie.Need-same-length-12
+same-length-12 c = search needs
+
+same-length-13 : tie.Need-same-length-13
+same-length-13 c = search needs
+
+same-length-14 : tie.Need-same-length-14
+same-length-14 c = search needs
+
+same-length-15 : tie.Need-same-length-15
+same-length-15 c = search needs
+
+same-length-16 : tie.Need-same-length-16
+same-length-16 c = search needs
+
+abbrev stepped : tie.After-slice-known16 → tie.After-step-on
+stepped c = c .before .before .before .before .before .before .before .before .before .before .before .before .before .before .before .before
 
 returns-2 : tie.Need-returns-2
-returns-2 c = subst (λ (b : Act). Steps (c .before .before .before .before .before .args .s) (c .before .before .before .before .before .args .a .actor does b) (c .acquire-bypassable .result)) (sym (c .before .before .act2 .given .1)) (c .acquire-bypassable .ensures)
-
-returns-3 : tie.Need-returns-3
-returns-3 c = subst (λ (b : Act). Steps (c .before .before .before .before .before .args .s) (c .before .before .before .before .before .args .a .actor does b) (c .acquire-reserving .result)) (sym (c .before .before .act3 .given .1)) (c .acquire-reserving .ensures)
-
-returns-4 : tie.Need-returns-4
-returns-4 c = subst (λ (b : Act). Steps (c .before .before .before .before .before .args .s) (c .before .before .before .before .before .args .a .actor does b) (c .upgrade .result)) (sym (c .before .before .act4 .given .1)) (c .upgrade .ensures)
-
-returns-5 : tie.Need-returns-5
-returns-5 c = subst (λ (b : Act). Steps (c .before .before .before .before .before .args .s) (c .before .before .before .before .before .args .a .actor does b) (c .poll .result)) (sym (c .before .before .act5 .given .1)) (c .poll .ensures)
-
-returns-6 : tie.Need-returns-6
-returns-6 c = subst (λ (b : Act). Steps (c .before .before .before .before .before .args .s) (c .before .before .before .before .before .args .a .actor does b) (c .try-acquire .result)) (sym (c .before .before .act6 .given .1)) (c .try-acquire .ensures)
-
-returns-7 : tie.Need-returns-7
-returns-7 c = subst (λ (b : Act). Steps (c .before .before .before .before .before .args .s) (c .before .before .before .before .before .args .a .actor does b) (c .try-upgrade .result)) (sym (c .before .before .act7 .given .1)) (c .try-upgrade .ensures)
-
-returns-8 : tie.Need-returns-8
-returns-8 c = subst (λ (b : Act). Steps (c .before .before .before .before .before .args .s) (c .before .before .before .before .before .args .a .actor does b) (c .release .result)) (sym (c .before .before .act8 .given .1)) (c .release .ensures)
-
-returns-9 : tie.Need-returns-9
-returns-9 c = subst (λ (b : Act). Steps (c .before .before .before .before .before .args .s) (c .before .before .before .before .before .args .a .actor does b) (c .drop .result)) (sym (c .before .before .act9 .given .1)) (c .drop .ensures)
-
-returns-10 : tie.Need-returns-10
-returns-10 c = subst (λ (b : Act). Steps (c .before .before .before .before .args .s) (c .before .before .before .before .args .a .actor does b) (c .close .result)) (sym (c .before .enum-told .given .1)) (c .close .ensures)
-
-returns-11 : tie.Need-returns-11
-returns-11 c = subst (λ (b : Act). Steps (c .before .before .before .before .args .s) (c .before .before .before .before .args .a .actor does b) (c .sleep .result)) (sym (c .before .enum-told2 .given .1)) (c .sleep .ensures)
-
-returns-12 : tie.Need-returns-12
-returns-12 c = subst (λ (b : Act). Steps (c .before .before .before .before .args .s) (c .before .before .before .before .args .a .actor does b) (c .finish .result)) (sym (c .before .enum-told3 .given .1)) (c .finish .ensures)
+returns-2 c =
+    let t = stepped c in
+    let e = on (t .before) in
+    let z = begun (e .before) in
+    steps-fit (z .args .s) (lent z) (z .args .grants .now) (z .args .a) (t .step-on .result) (e .before .is-broken .result) (e .before .is-broken .ensures) _ _ (e .if1 .left) (t .step-on .ensures)
 
 pub step-spec : {M : Type 1} → statement M
 step-spec =
     tie.close
     (tie.spec
-    enum-known-act
-    acquire-requires
-    enum-known-act-2
-    acquire-bypassable-requires
-    enum-known-act-3
-    acquire-reserving-requires
-    enum-known-act-4
-    upgrade-requires
-    enum-known-act-5
-    poll-requires
-    enum-known-act-6
-    try-acquire-requires
-    enum-known-act-7
-    try-upgrade-requires
-    enum-known-act-8
-    release-requires
-    enum-known-act-9
-    drop-requires
-    enum-told
-    close-requires
-    enum-told-2
-    sleep-requires
-    enum-told-3
-    finish-requires
+    is-broken-requires
+    same-length
+    same-length-2
+    same-length-3
+    same-length-4
+    same-length-5
+    same-length-6
+    same-length-7
+    same-length-8
     returns
-    returns-2
-    returns-3
-    returns-4
-    returns-5
-    returns-6
-    returns-7
-    returns-8
-    returns-9
-    returns-10
-    returns-11
-    returns-12)
+    step-on-requires
+    same-length-9
+    same-length-10
+    same-length-11
+    same-length-12
+    same-length-13
+    same-length-14
+    same-length-15
+    same-length-16
+    returns-2)

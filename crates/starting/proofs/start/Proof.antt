@@ -1,6 +1,6 @@
 -- `starting::start`: its clocks are all zero.
-use Rattle.starting.proofs.Clocks.{entries-within, entries-length, gives-zero}
 use borrow.Author.Needs.{needs}
+use Rattle.starting.proofs.Clocks.{entries-within, entries-length, gives-zero}
 use Rattle.starting.proofs.start.Statement.{statement}
 use Rattle.starting.proofs.start.Tie as tie
 
@@ -10,8 +10,8 @@ zeros-requires c κs = search needs
 entries-requires : tie.Need-entries-requires
 entries-requires c κs = search needs
 
-array-share-prefix-clocks : tie.Need-array-share-prefix-clocks
-array-share-prefix-clocks c = search (entries-within, needs)
+array-share-prefix-starts : tie.Need-array-share-prefix-starts
+array-share-prefix-starts c = search (entries-within, needs)
 
 slice-aggregate-start-with : tie.Need-slice-aggregate-start-with
 slice-aggregate-start-with c = search (entries-length, needs)
@@ -28,7 +28,7 @@ start-spec =
     (tie.spec
     zeros-requires
     entries-requires
-    array-share-prefix-clocks
+    array-share-prefix-starts
     slice-aggregate-start-with
     start-with-requires
     returns)

@@ -3,7 +3,7 @@ use mathlib.Core.Path.{_≡_}
 use Rattle.rules.specs.Refusals.{refusal}
 use Rattle.replies.specs.Answers.{given}
 use Rattle.planning.specs.Plans.{Planned}
-use Rattle.held.specs.View.{Words, words, plainIn, viewOf}
+use Rattle.state.specs.View.{Words, words, plainIn, viewOf}
 use Rattle.stepping.proofs.Stepping.{checked-whole, refused-steps, no-refusal, taken-steps}
 use borrow.Author.Needs.{needs}
 use Rattle.stepping.proofs.step_on.Statement.{statement}

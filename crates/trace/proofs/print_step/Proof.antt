@@ -1,6 +1,6 @@
--- `trace::print_step`: the line of the outcome.
-use Rattle.trace.proofs.Lines.{step-printed}
+-- `trace::print_step`: the line of the outcome, whatever else is lent.
 use borrow.Author.Needs.{needs}
+use Rattle.trace.proofs.Turns.{step-printed}
 use Rattle.trace.proofs.print_step.Statement.{statement}
 use Rattle.trace.proofs.print_step.Tie as tie
 

@@ -1,6 +1,6 @@
 -- `trace::run`: with room and without.
-use Rattle.trace.proofs.Firsts.{prints-nothing, prints-in, short-room, enough-room}
 use borrow.Author.Needs.{needs}
+use Rattle.trace.proofs.Firsts.{prints-nothing, prints-in, short-room, enough-room}
 use Rattle.trace.proofs.run.Statement.{statement}
 use Rattle.trace.proofs.run.Tie as tie
 

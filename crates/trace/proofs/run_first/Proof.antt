@@ -1,9 +1,9 @@
 -- `trace::run_first`: a start, or `bad`.
+use borrow.Author.Needs.{needs}
 use native.Mathlib.Omega.{arith}
 use mathlib.Core.Path.{sym}
 use lib.Seq.{length-take-le}
 use Rattle.trace.proofs.Firsts.{first-room, first-start, first-bad}
-use borrow.Author.Needs.{needs}
 use Rattle.trace.proofs.run_first.Statement.{statement}
 use Rattle.trace.proofs.run_first.Tie as tie
 

@@ -1,40 +1,65 @@
 -- `trace::run_fresh`: the first line, and the others behind it.
-use Rattle.trace.proofs.Firsts.{fresh-behind}
-use Prim.Native.Nat.{_≤_}
-use lib.ListN.{length}
-use native.Mathlib.Omega.{arith}
 use borrow.Author.Needs.{needs}
+use Rattle.trace.proofs.Firsts.{fresh-room, fresh-printed}
 use Rattle.trace.proofs.run_fresh.Statement.{statement}
 use Rattle.trace.proofs.run_fresh.Tie as tie
 
-counts-of-requires : tie.Need-counts-of-requires
-counts-of-requires c κs = search needs
-
-none-requires : tie.Need-none-requires
-none-requires c κs = search needs
-
-print-line-requires : tie.Need-print-line-requires
-print-line-requires c κs = search needs
+print-step-requires : tie.Need-print-step-requires
+print-step-requires c κs = search needs
 
 run-lines-requires : tie.Need-run-lines-requires
-run-lines-requires c κs = search needs
+run-lines-requires c κs =
+    let e = c .before .before .before .before .before .before .before .before .before .before .before in
+    let p = e .before .before .before .before .before .before .before .before .before .before .before .before .before .pre in
+    (p .0, fresh-room _ (p .1) (e .print-step .kept .0) (p .2) (e .print-step .ensures), p .2)
 
 same-length : tie.Need-same-length
 same-length c = search needs
 
+same-length-2 : tie.Need-same-length-2
+same-length-2 c = search needs
+
+same-length-3 : tie.Need-same-length-3
+same-length-3 c = search needs
+
+same-length-4 : tie.Need-same-length-4
+same-length-4 c = search needs
+
+same-length-5 : tie.Need-same-length-5
+same-length-5 c = search needs
+
+same-length-6 : tie.Need-same-length-6
+same-length-6 c = search needs
+
+same-length-7 : tie.Need-same-length-7
+same-length-7 c = search needs
+
+same-length-8 : tie.Need-same-length-8
+same-length-8 c = search needs
+
+same-length-9 : tie.Need-same-length-9
+same-length-9 c = search needs
+
 returns : tie.Need-returns
 returns c =
-    let p = c .before .before .before .before .before .before .print-line .ensures in
-    let room : 180 ≤ length (c .before .before .before .before .before .before .before .before .before .before .before .before .args .out .now) = omega (arith, c .before .before .before .before .before .before .before .before .before .before .before .before .pre .1) in
-    fresh-behind (c .before .before .before .before .before .before .before .before .before .before .before .before .args .s) (c .before .before .before .before .before .before .before .before .counts-of .result) (c .before .before .before .before .before .before .before .none .result) _ _ _ _ _ _ (c .before .before .before .before .before .before .before .before .counts-of .ensures) (c .before .before .before .before .before .before .before .none .ensures) room p (c .before .before .run-lines .ensures)
+    let l = c .before .before .before .before .before .before .before .before .before .before .before .before .before .before .before .before .before .before in
+    let e = l .before .before .before .before .before .before .before .before .before .before .before .before in
+    let p = e .before .before .before .before .before .before .before .before .before .before .before .before .before .pre in
+    fresh-printed _ (p .1) (p .2) (e .print-step .ensures) (l .run-lines .ensures)
 
 pub run-fresh-spec : {M : Type 1} → statement M
 run-fresh-spec =
     tie.close
     (tie.spec
-    counts-of-requires
-    none-requires
-    print-line-requires
+    print-step-requires
     run-lines-requires
     same-length
+    same-length-2
+    same-length-3
+    same-length-4
+    same-length-5
+    same-length-6
+    same-length-7
+    same-length-8
+    same-length-9
     returns)

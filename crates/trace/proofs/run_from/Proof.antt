@@ -1,9 +1,6 @@
 -- `trace::run_from`: `r12`, or the line of the fresh state and the others behind it.
-use native.Mathlib.Omega.{arith}
-use Rattle.fresh.proofs.Starts.{started-fit}
-use Rattle.starting.specs.Said.{startSaid}
-use Rattle.trace.proofs.Firsts.{first-refused, first-accepted}
 use borrow.Author.Needs.{needs}
+use Rattle.trace.proofs.Firsts.{started-fit, first-refused, first-accepted}
 use Rattle.trace.proofs.run_from.Statement.{statement}
 use Rattle.trace.proofs.run_from.Tie as tie
 
@@ -20,16 +17,40 @@ same-length : tie.Need-same-length
 same-length c = search needs
 
 returns : tie.Need-returns
-returns c = first-refused (startSaid (c .before .before .before .before .before .before .before .before .before .args .a)) (c .before .before .before .before .before .before .start .result) (c .before .before .before .before .before .before .start .ensures) _ _ _ _ (c .before .before .before .before .before .if1 .taken) (omega (arith, c .before .before .before .before .before .before .before .before .before .pre .1)) (c .before .before .put .ensures)
+returns c = search (first-refused, needs)
+
+slice-aggregate-run-fresh : tie.Need-slice-aggregate-run-fresh
+slice-aggregate-run-fresh c = search needs
+
+slice-aggregate-run-fresh-2 : tie.Need-slice-aggregate-run-fresh-2
+slice-aggregate-run-fresh-2 c = search needs
+
+slice-aggregate-run-fresh-3 : tie.Need-slice-aggregate-run-fresh-3
+slice-aggregate-run-fresh-3 c = search needs
+
+slice-aggregate-run-fresh-4 : tie.Need-slice-aggregate-run-fresh-4
+slice-aggregate-run-fresh-4 c = search needs
+
+slice-aggregate-run-fresh-5 : tie.Need-slice-aggregate-run-fresh-5
+slice-aggregate-run-fresh-5 c = search needs
+
+slice-aggregate-run-fresh-6 : tie.Need-slice-aggregate-run-fresh-6
+slice-aggregate-run-fresh-6 c = search needs
+
+slice-aggregate-run-fresh-7 : tie.Need-slice-aggregate-run-fresh-7
+slice-aggregate-run-fresh-7 c = search needs
+
+slice-aggregate-run-fresh-8 : tie.Need-slice-aggregate-run-fresh-8
+slice-aggregate-run-fresh-8 c = search needs
 
 run-fresh-requires : tie.Need-run-fresh-requires
-run-fresh-requires c κs = (c .before .before .before .before .before .pre .0, c .before .before .before .before .before .pre .1, started-fit (c .before .before .start .result) (startSaid (c .before .before .before .before .before .args .a)) (c .before .before .start .ensures))
+run-fresh-requires c κs = (search needs, search needs, search (started-fit, needs))
 
 same-length-2 : tie.Need-same-length-2
 same-length-2 c = search needs
 
 returns-2 : tie.Need-returns-2
-returns-2 c = first-accepted (startSaid (c .before .before .before .before .before .before .before .before .args .a)) (c .before .before .before .before .before .start .result) (c .before .before .before .before .before .start .ensures) _ _ _ _ (c .before .before .before .before .if1 .left) (c .before .before .run-fresh .ensures)
+returns-2 c = search (first-accepted, needs)
 
 pub run-from-spec : {M : Type 1} → statement M
 run-from-spec =
@@ -40,6 +61,14 @@ run-from-spec =
     put-requires
     same-length
     returns
+    slice-aggregate-run-fresh
+    slice-aggregate-run-fresh-2
+    slice-aggregate-run-fresh-3
+    slice-aggregate-run-fresh-4
+    slice-aggregate-run-fresh-5
+    slice-aggregate-run-fresh-6
+    slice-aggregate-run-fresh-7
+    slice-aggregate-run-fresh-8
     run-fresh-requires
     same-length-2
     returns-2)

@@ -1,6 +1,6 @@
 -- `trace::run_in`: `long`, or what the script prints.
-use Rattle.trace.proofs.Firsts.{long-behind, short-behind}
 use borrow.Author.Needs.{needs}
+use Rattle.trace.proofs.Firsts.{long-in, short-in}
 use Rattle.trace.proofs.run_in.Statement.{statement}
 use Rattle.trace.proofs.run_in.Tie as tie
 
@@ -14,7 +14,7 @@ same-length : tie.Need-same-length
 same-length c = search needs
 
 returns : tie.Need-returns
-returns c = search (long-behind, needs)
+returns c = search (long-in, needs)
 
 run-whole-requires : tie.Need-run-whole-requires
 run-whole-requires c κs = search needs
@@ -23,7 +23,7 @@ same-length-2 : tie.Need-same-length-2
 same-length-2 c = search needs
 
 returns-2 : tie.Need-returns-2
-returns-2 c = search (short-behind, needs)
+returns-2 c = search (short-in, needs)
 
 pub run-in-spec : {M : Type 1} → statement M
 run-in-spec =

@@ -1,46 +1,78 @@
 -- `trace::run_line`: a step, or none.
-use Rattle.trace.proofs.Lines.{line-step, line-bad, line-room}
 use borrow.Author.Needs.{needs}
+use Rattle.trace.proofs.Turns.{step-room, bad-room, turned-by, turned-bad}
 use Rattle.trace.proofs.run_line.Statement.{statement}
 use Rattle.trace.proofs.run_line.Tie as tie
 
-step-of-requires : tie.Need-step-of-requires
-step-of-requires c κs = search needs
-
-enum-known-a : tie.Need-enum-known-a
-enum-known-a c = search needs
+enum-known-said : tie.Need-enum-known-said
+enum-known-said c = search needs
 
 take-step-requires : tie.Need-take-step-requires
-take-step-requires c κs = (search (line-room, needs), search needs)
+take-step-requires c κs = search (step-room, needs)
 
 enum-told : tie.Need-enum-told
 enum-told c = search needs
 
-print-bad-requires : tie.Need-print-bad-requires
-print-bad-requires c κs = search needs
+slice-aggregate-put : tie.Need-slice-aggregate-put
+slice-aggregate-put c = search needs
+
+put-requires : tie.Need-put-requires
+put-requires c κs = search (bad-room, needs)
 
 same-length : tie.Need-same-length
 same-length c = search needs
 
-returns : tie.Need-returns
-returns c = line-step (c .before .before .before .before .before .before .before .before .before .before .args .s) (c .before .before .before .before .before .before .before .before .before .before .pre .1) (c .before .before .before .before .before .before .before .before .before .before .args .line .now) (c .before .before .before .before .before .before .before .step-of .result) (c .before .before .before .before .before .before .before .step-of .ensures) _ _ _ _ _ _ (c .before .before .before .before .before .a .given .1) (c .before .before .take-step .ensures)
-
 same-length-2 : tie.Need-same-length-2
 same-length-2 c = search needs
 
+same-length-3 : tie.Need-same-length-3
+same-length-3 c = search needs
+
+same-length-4 : tie.Need-same-length-4
+same-length-4 c = search needs
+
+same-length-5 : tie.Need-same-length-5
+same-length-5 c = search needs
+
+same-length-6 : tie.Need-same-length-6
+same-length-6 c = search needs
+
+same-length-7 : tie.Need-same-length-7
+same-length-7 c = search needs
+
+same-length-8 : tie.Need-same-length-8
+same-length-8 c = search needs
+
+same-length-9 : tie.Need-same-length-9
+same-length-9 c = search needs
+
+returns : tie.Need-returns
+returns c = search (turned-by, c .before .before .before .before .before .before .before .before .before .before .before .before .before .before .before .before .before .before .before .before .before .before .before .before .before .before .before .before .before .said, needs)
+
+same-length-10 : tie.Need-same-length-10
+same-length-10 c = search needs
+
 returns-2 : tie.Need-returns-2
-returns-2 c = line-bad (c .before .before .before .before .before .before .before .before .before .args .s) (c .before .before .before .before .before .before .before .before .before .pre .1) (c .before .before .before .before .before .before .before .before .before .args .line .now) (c .before .before .before .before .before .before .step-of .result) (c .before .before .before .before .before .before .step-of .ensures) _ _ _ _ _ (c .before .before .before .before .enum-told .given .1) (c .before .before .print-bad .ensures)
+returns-2 c = search (turned-bad, needs)
 
 pub run-line-spec : {M : Type 1} → statement M
 run-line-spec =
     tie.close
     (tie.spec
-    step-of-requires
-    enum-known-a
+    enum-known-said
     take-step-requires
     enum-told
-    print-bad-requires
+    slice-aggregate-put
+    put-requires
     same-length
-    returns
     same-length-2
+    same-length-3
+    same-length-4
+    same-length-5
+    same-length-6
+    same-length-7
+    same-length-8
+    same-length-9
+    returns
+    same-length-10
     returns-2)

@@ -1,52 +1,70 @@
--- `trace::run_lines`: what stands in the buffer, with what is still to be printed, is what was to be printed.
-use Prim.Native.Nat.{_+_, _*_, _-_, _≤_}
+-- `trace::run_lines`: the lines up to the place reached are printed, and those behind it are left.
+use Prim.Native.Nat.{_-_}
 use native.Mathlib.Omega.{arith}
+use lib.ListN.{length}
 use borrow.Author.Needs.{needs}
-use mathlib.Core.Path.{_≡_, refl, _∙_}
-use mathlib.Core.List.{_++_}
-use lib.ListN.{length, take, drop}
-use Rattle.rules.specs.Text.{lines}
-use Rattle.rules.specs.Script.{trace}
-use Rattle.state.specs.View.{view}
-use Rattle.broken.specs.Broken.{Fit}
-use Rattle.trace.proofs.Turns.{turns-end}
+use Rattle.state.specs.View.{words, viewOf, Fit}
+use Rattle.trace.specs.Running.{Onward}
+use Rattle.trace.proofs.Turns.{onward-none, onward-length, line-room, onward-more, onward-ends}
 use Rattle.trace.proofs.run_lines.Statement.{statement}
 use Rattle.trace.proofs.run_lines.Tie as tie
 
 abbrev Inv-loop : tie.InvT-loop
-Inv-loop script from out₀ start at₀ s₀ n₀ out at s n =
-    (take n out ++ trace (view s) (lines (drop at script)) ≡ take start out₀ ++ trace (view s₀) (lines (drop from script)))
-    × (n + 45 * (length script - at) ≤ length out)
-    × Fit s
-    × (at ≤ length script)
-    × (length out ≡ length out₀)
+Inv-loop script from out₀ start slots₀ tasks₀ sizes₀ rows₀ last₀ makers₀ clocks₀ grants₀ at₀ s₀ n₀ out slots tasks sizes rows last makers clocks grants at s n =
+    Onward script from (viewOf s₀ (words slots₀ tasks₀ sizes₀ rows₀ last₀ makers₀ clocks₀)) out₀ start at (viewOf s (words slots tasks sizes rows last makers clocks)) out n
+    × Fit s (words slots tasks sizes rows last makers clocks) grants
 
 abbrev μ-loop : tie.MeasureT-loop
-μ-loop script from out₀ start at₀ s₀ n₀ out at s n = length script - at
+μ-loop script from out₀ start slots₀ tasks₀ sizes₀ rows₀ last₀ makers₀ clocks₀ grants₀ at₀ s₀ n₀ out slots tasks sizes rows last makers clocks grants at s n = length script - at
 
 loop-holds : tie.Need-loop-holds Inv-loop μ-loop
-loop-holds c = (refl, search needs, search needs, search needs, refl)
+loop-holds c = search (onward-none, needs)
 
-run-next-requires : tie.Need-run-next-requires Inv-loop μ-loop
-run-next-requires c κs = (search needs, c .before .before .loop .inv .1, c .before .before .loop .inv .2)
+read-line-requires : tie.Need-read-line-requires Inv-loop μ-loop
+read-line-requires c κs = search needs
+
+run-line-requires : tie.Need-run-line-requires Inv-loop μ-loop
+run-line-requires c κs = (search (line-room, needs), search needs)
 
 loop-less : tie.Need-loop-less Inv-loop μ-loop
-loop-less c = omega (arith, c .before .before .before .run-next .ensures .on, c .before .before .before .run-next .ensures .within)
+loop-less c = omega (arith, c .before .before .before .before .before .before .before .before .before .before .before .before .before .before .before .before .before .before .before .before .before .before .before .before .before .before .before .before .before .read-line .ensures)
 
 loop-again : tie.Need-loop-again Inv-loop μ-loop
 loop-again c =
-    let l = c .before .before .before .before .before .before .loop in
-    let r = c .before .before .before .run-next .ensures in
-    (r .whole ∙ l .inv .0, r .room, r .fit, r .within, search needs)
+    let t = c .before .before .before .before .before .before .before .before .before .before .before .before .before .before .before .before .before .before .before in
+    let r = t .before .before .before .before .before .before .before .before .before .before in
+    let l = r .before .before .loop .inv in
+    (onward-more (l .0) (r .read-line .ensures) (l .1 .sound) (t .run-line .ensures .printed) (t .run-line .ensures .state), t .run-line .ensures .fit)
 
 same-length : tie.Need-same-length Inv-loop μ-loop
-same-length c = search needs
+same-length c = search (onward-length, needs)
+
+same-length-2 : tie.Need-same-length-2 Inv-loop μ-loop
+same-length-2 c = search needs
+
+same-length-3 : tie.Need-same-length-3 Inv-loop μ-loop
+same-length-3 c = search needs
+
+same-length-4 : tie.Need-same-length-4 Inv-loop μ-loop
+same-length-4 c = search needs
+
+same-length-5 : tie.Need-same-length-5 Inv-loop μ-loop
+same-length-5 c = search needs
+
+same-length-6 : tie.Need-same-length-6 Inv-loop μ-loop
+same-length-6 c = search needs
+
+same-length-7 : tie.Need-same-length-7 Inv-loop μ-loop
+same-length-7 c = search needs
+
+same-length-8 : tie.Need-same-length-8 Inv-loop μ-loop
+same-length-8 c = search needs
+
+same-length-9 : tie.Need-same-length-9 Inv-loop μ-loop
+same-length-9 c = search needs
 
 returns : tie.Need-returns Inv-loop μ-loop
-returns c =
-    let l = c .before .loop in
-    let z = c .before .before .before .before .args in
-    turns-end (z .script .now) (z .out .now) (l .out) (z .from) (z .start) (l .at) (l .n) (z .first) (l .s) (l .inv .0) (l .inv .1) (search needs)
+returns c = search (onward-ends, needs)
 
 pub run-lines-spec : {M : Type 1} → statement M
 run-lines-spec =
@@ -55,8 +73,17 @@ run-lines-spec =
     Inv-loop
     μ-loop
     loop-holds
-    run-next-requires
+    read-line-requires
+    run-line-requires
     loop-less
     loop-again
     same-length
+    same-length-2
+    same-length-3
+    same-length-4
+    same-length-5
+    same-length-6
+    same-length-7
+    same-length-8
+    same-length-9
     returns)

@@ -1,7 +1,7 @@
 -- `trace::run_whole`: a first line, an unended one, or none.
-use Rattle.trace.proofs.Turns.{ended-before}
-use Rattle.trace.proofs.Firsts.{unended-room, whole-ended, whole-unended, whole-end}
 use borrow.Author.Needs.{needs}
+use Rattle.trace.proofs.Lines.{ended-before}
+use Rattle.trace.proofs.Firsts.{unended-room, whole-ended, whole-unended, whole-end}
 use Rattle.trace.proofs.run_whole.Statement.{statement}
 use Rattle.trace.proofs.run_whole.Tie as tie
 

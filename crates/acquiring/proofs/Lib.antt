@@ -1,3 +1,0 @@
-pub mod Put
-pub mod Tried
-pub mod Pollings

@@ -1,4 +1,0 @@
-pub mod Clearing
-pub mod Rows
-pub mod Starting
-pub mod Starts

@@ -1,3 +1,0 @@
-pub mod Judged
-pub mod Carried
-pub mod OneAnswer

@@ -1,3 +1,0 @@
-pub mod Weights
-pub mod Broken
-pub mod KeyInvariants

@@ -1,8 +1,0 @@
-pub mod Rings
-pub mod Rows
-pub mod Batching
-pub mod First
-pub mod Consuming
-pub mod Summing
-pub mod Setting
-pub mod Breaking

@@ -1,4 +1,0 @@
-pub mod Walks
-pub mod Stored
-pub mod Scanning
-pub mod Removing

@@ -1,2 +1,0 @@
-pub mod Composing
-pub mod Grounds

@@ -1,4 +1,0 @@
-pub mod Lines
-pub mod Turns
-pub mod Firsts
-pub mod Once

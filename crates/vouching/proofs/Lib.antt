@@ -1,4 +1,0 @@
-pub mod Begun
-pub mod Carried
-pub mod Promises
-pub mod Told

@@ -1,4 +1,0 @@
-pub mod Turns
-pub mod Rousing
-pub mod Parts
-pub mod Whole
