@@ -8,7 +8,6 @@ use mathlib.Core.Option.{Option, none, some}
 use Rattle.rules.specs.declared.TaskId.{TaskId}
 use Rattle.rules.specs.declared.Slot.{Slot}
 use Rattle.rules.specs.declared.Grant.{Grant}
-use Rattle.rules.specs.declared.Priority.the-variants.{Back, Front}
 use Rattle.rules.specs.declared.Direct.{Direct}
 use Rattle.rules.specs.declared.Direct.the-variants.{Shut, NoPermits, Take}
 use Rattle.rules.specs.declared.Polling.{Polling}
@@ -16,17 +15,18 @@ use Rattle.rules.specs.declared.Polling.the-variants.{Holds, IsClosed, S
 use Rattle.rules.specs.declared.Dropping.{Dropping}
 use Rattle.rules.specs.declared.Dropping.the-variants.{Leaving, Unreserving, Returning, Nothing}
 use Rattle.rules.specs.declared.Act.{Act}
-use Rattle.rules.specs.declared.Act.the-variants.{Acquire, AcquireBypassable, AcquireReserving, Upgrade, Poll, Try, TryUpgrade, Release, Drop, Close, Sleep, Finish}
 use Rattle.rules.specs.declared.Step.{Step}
 use Rattle.rules.specs.State.{Permits, State, stock, requestAt, askedAt, withReservation, alterRequest}
 use Rattle.rules.specs.Taking.{takeAs, adding, direct}
 use Rattle.rules.specs.Scan.{leave, queueGrant, walk, scan}
 use Rattle.rules.specs.Polling.{polling, pollWork, pollGrants, pollMark, polled}
-use Rattle.rules.specs.Steps.{make, tryBy, poll, addReleased, release, dropping, dropWork, dropRequest, effectOf}
+use Rattle.rules.specs.Steps.{Sort, bySort, make, tryBy, poll, addReleased, release, dropping, dropWork, dropRequest, effectOf}
 use Rattle.rules.specs.Refusals.{refusal, returned}
 use Rattle.rules.specs.Runs.{step, unless, run}
 use Rattle.rules.specs.Promises.{counts, grantedIn, releases, givesUp, ifAccepted, overRun, releasedIn, givenUpIn}
 use Rattle.rules.specs.Sound.{Sound}
+use Rattle.rules.proofs.Accepting.{Allowed, accepted}
+use Rattle.rules.proofs.Acting.{by-act}
 use Rattle.rules.proofs.Tasks.{reblocks}
 use Rattle.rules.proofs.KeepsQueue.{has-reservation}
 use Rattle.rules.proofs.KeepsTaking.{take-stock}
@@ -129,30 +129,36 @@ gives-back Unreserving x s h k = waiting x s (h .reserves x (has-reservation x s
 gives-back Returning x s h k = sym (ap (λ (b : Bool). cond b (askedAt x s) 0) (k .2))
 gives-back Nothing x s h k = sym (ap (λ (b : Bool). cond b (askedAt x s) 0) (k .2))
 
-act-balance : (t : TaskId) (a : Act) (s : State) → Sound s → Balance s (releases a + givesUp a s) (effectOf t a s .grants) (effectOf t a s .state)
-unfolding effectOf make poll dropRequest
-act-balance t (Acquire n) s h = balanced refl
-act-balance t (AcquireBypassable n) s h = balanced refl
-act-balance t (AcquireReserving least n) s h = balanced refl
-act-balance t (Upgrade held wanted) s h = balanced refl
-act-balance t (Poll x) s h = poll-balance (polling x s) t x s (poll-says x s)
-act-balance t (Try n) s h = try-balance (direct Back n s) t n s (take-fits Back n s)
-act-balance t (TryUpgrade held wanted) s h =
-    try-balance (direct Front (wanted - held) s) t (wanted - held) s (take-fits Front (wanted - held) s)
-act-balance t (Release n) s h = omega (arith, release-balance t n s)
-act-balance t (Drop x) s h = omega (arith, drop-balance (dropping x s) t x s, gives-back (dropping x s) x s h (drop-says x s))
-act-balance t Close s h = balanced (stock-of (untouched-closing s))
-act-balance t Sleep s h = balanced refl
-act-balance t Finish s h = balanced refl
+-- what each sort of act brings back: released, and given up
+abbrev brought : Sort → State → ℕ
+brought o s =
+    bySort o (λ n. n) (λ x. 0) 0 + bySort o (λ n. 0) (λ x. cond (unfulfilled x s) (askedAt x s) 0) 0
+
+act-balance : (t : TaskId) (a : Act) (s : State) → Sound s → Allowed t a s
+    → Balance s (releases a + givesUp a s) (effectOf t a s .grants) (effectOf t a s .state)
+unfolding make poll dropRequest
+act-balance t a s h k =
+    by-act {X = λ o r. Balance s (brought o s) (r .grants) (r .state)}
+    (record {
+      makes = λ b m. balanced refl;
+      polls = λ x p. poll-balance (polling x s) t x s (poll-says x s);
+      tries = λ p n m c. try-balance (direct p n s) t n s (take-fits p n s);
+      releases = λ n r. omega (arith, release-balance t n s);
+      drops = λ x u r. omega (arith, drop-balance (dropping x s) t x s, gives-back (dropping x s) x s h (drop-says x s));
+      closes = balanced (stock-of (untouched-closing s));
+      sleeps = balanced refl;
+      finishes = balanced refl;
+    })
+    a k
 
 pub step-balance : (a : Step) (s : State) → Sound s
     → stock (step a s .state) + counts (step a s .grants) ≡ stock s + ifAccepted (refusal a s) (releases (a .act) + givesUp (a .act) s) 0
 unfolding step
-step-balance a s h = go (refusal a s)
+step-balance a s h = go (refusal a s) refl
   where
-    go : (o : Option ℕ) → Balance s (ifAccepted o (releases (a .act) + givesUp (a .act) s) 0) (unless o a s .grants) (unless o a s .state)
-    go none = act-balance (a .actor) (a .act) s h
-    go (some n) = balanced refl
+    go : (o : Option ℕ) → refusal a s ≡ o → Balance s (ifAccepted o (releases (a .act) + givesUp (a .act) s) 0) (unless o a s .grants) (unless o a s .state)
+    go none e = act-balance (a .actor) (a .act) s h (accepted a s e .allowed)
+    go (some n) e = balanced refl
 
 -- a sum over the steps is the sum of its two parts
 accepted-sum : (o : Option ℕ) (m n : ℕ) → ifAccepted o (m + n) 0 ≡ ifAccepted o m 0 + ifAccepted o n 0

@@ -12,7 +12,6 @@ use Rattle.rules.specs.declared.TaskId.{TaskId}
 use Rattle.rules.specs.declared.Slot.{Slot}
 use Rattle.rules.specs.declared.TaskState.{TaskState}
 use Rattle.rules.specs.declared.TaskState.the-variants.{Runnable, Blocked, Sleeping, Finished}
-use Rattle.rules.specs.declared.Priority.the-variants.{Back}
 use Rattle.rules.specs.declared.Direct.{Direct}
 use Rattle.rules.specs.declared.Direct.the-variants.{Shut, NoPermits, Take}
 use Rattle.rules.specs.declared.Polling.{Polling}
@@ -20,7 +19,6 @@ use Rattle.rules.specs.declared.Polling.the-variants.{Holds, IsClosed, S
 use Rattle.rules.specs.declared.Dropping.{Dropping}
 use Rattle.rules.specs.declared.Dropping.the-variants.{Leaving, Unreserving, Returning, Nothing}
 use Rattle.rules.specs.declared.Act.{Act}
-use Rattle.rules.specs.declared.Act.the-variants.{Acquire, AcquireBypassable, AcquireReserving, Upgrade, Poll, Try, TryUpgrade, Release, Drop, Close, Sleep, Finish}
 use Rattle.rules.specs.declared.Step.{Step}
 use Rattle.rules.specs.Task.{Task, noTask, isRunnable, isFinished, blocked, unblocked, wakened, slept}
 use Rattle.rules.specs.State.{State, strict, stock, taskAt, askedAt, leastAt, taskOf, ownerFinished, withReservation, alterTask, unblockAndWake}
@@ -34,7 +32,8 @@ use Rattle.rules.proofs.Bools.{by-cond, both, clash}
 use Rattle.rules.proofs.Tasks.{by-task}
 use Rattle.rules.proofs.Decisions.{by-release, by-drop-queued}
 use Rattle.rules.proofs.KeepsScan.{by-walk}
-use Rattle.rules.proofs.Accepting.{accepted}
+use Rattle.rules.proofs.Accepting.{accepted, Allowed}
+use Rattle.rules.proofs.Acting.{by-act}
 use Rattle.rules.proofs.KeepsSteps.{by-refusal, by-run}
 
 -- whoever is finished among the tasks ts is so among us
@@ -202,24 +201,25 @@ runnable-unfinished Blocked e = refl
 runnable-unfinished Sleeping e = refl
 runnable-unfinished Finished e = clash e refl
 
-still-acted : (t : TaskId) (a : Act) (s : State) → isRunnable (taskAt t s .state) ≡ true → StillFinished s (effectOf t a s .state)
-unfolding effectOf make poll dropRequest
-still-acted t (Acquire n) s r = lasts (s .tasks)
-still-acted t (AcquireBypassable n) s r = lasts (s .tasks)
-still-acted t (AcquireReserving least n) s r = lasts (s .tasks)
-still-acted t (Upgrade held wanted) s r = lasts (s .tasks)
-still-acted t (Poll x) s r = still-polled (polling x s) t x s
-still-acted t (Try n) s r = still-tried (direct Back n s) t n s
-still-acted t (TryUpgrade held wanted) s r = still-tried _ t _ s
-still-acted t (Release n) s r = still-released t n s
-still-acted t (Drop x) s r = still-dropped (dropping x s) t x s
-still-acted t Close s r = still-closed s
-still-acted t Sleep s r = still-unfinished t slept s (runnable-unfinished (taskAt t s .state) r)
-still-acted t Finish s r = still-set t _ s (λ e. refl)
+still-acted : (t : TaskId) (a : Act) (s : State) → isRunnable (taskAt t s .state) ≡ true → Allowed t a s → StillFinished s (effectOf t a s .state)
+unfolding make poll dropRequest
+still-acted t a s r k =
+    by-act {X = λ o q. StillFinished s (q .state)}
+    (record {
+      makes = λ b m. lasts (s .tasks);
+      polls = λ x p. still-polled (polling x s) t x s;
+      tries = λ p n m c. still-tried (direct p n s) t n s;
+      releases = λ n c. still-released t n s;
+      drops = λ x u c. still-dropped (dropping x s) t x s;
+      closes = still-closed s;
+      sleeps = still-unfinished t slept s (runnable-unfinished (taskAt t s .state) r);
+      finishes = still-set t _ s (λ e. refl);
+    })
+    a k
 
 still-stepped : (a : Step) (s : State) → StillFinished s (step a s .state)
 still-stepped a s =
-    by-refusal (λ o. StillFinished s (o .state)) a s (λ e. still-acted (a .actor) (a .act) s (accepted a s e .runnable)) (λ n e. lasts (s .tasks))
+    by-refusal (λ o. StillFinished s (o .state)) a s (λ e. let k = accepted a s e in still-acted (a .actor) (a .act) s (k .runnable) (k .allowed)) (λ n e. lasts (s .tasks))
 
 pub finished-stays : (as′ : List Step) (s : State) (t : TaskId)
     → isFinished (taskAt t s .state) ≡ true → isFinished (taskAt t (run as′ s .state) .state) ≡ true

@@ -1,5 +1,5 @@
 -- The numbers in every grant fit: its slot, its count, and the task that joined.
-use Prim.Native.Nat.{ℕ, _-_, _≤_, _<_}
+use Prim.Native.Nat.{ℕ, _≤_, _<_}
 use native.Mathlib.Omega.{arith}
 use mathlib.Core.Path.{_≡_, refl, sym, subst}
 use mathlib.Core.Bool.{true}
@@ -7,7 +7,6 @@ use mathlib.Core.List.{List, [], _∷_}
 use Rattle.rules.specs.declared.TaskId.{TaskId}
 use Rattle.rules.specs.declared.Slot.{Slot}
 use Rattle.rules.specs.declared.Grant.{Grant}
-use Rattle.rules.specs.declared.Priority.the-variants.{Back, Front}
 use Rattle.rules.specs.declared.Direct.{Direct}
 use Rattle.rules.specs.declared.Direct.the-variants.{Shut, NoPermits, Take}
 use Rattle.rules.specs.declared.Polling.{Polling}
@@ -15,7 +14,6 @@ use Rattle.rules.specs.declared.Polling.the-variants.{Holds, IsClosed, S
 use Rattle.rules.specs.declared.Dropping.{Dropping}
 use Rattle.rules.specs.declared.Dropping.the-variants.{Leaving, Unreserving, Returning, Nothing}
 use Rattle.rules.specs.declared.Act.{Act}
-use Rattle.rules.specs.declared.Act.the-variants.{Acquire, AcquireBypassable, AcquireReserving, Upgrade, Poll, Try, TryUpgrade, Release, Drop, Close, Sleep, Finish}
 use Rattle.rules.specs.declared.Step.{Step}
 use Rattle.rules.specs.State.{State, stock, inUse, askedAt}
 use Rattle.rules.specs.Taking.{direct}
@@ -33,6 +31,7 @@ use Rattle.rules.proofs.KeepsQueue.{sound-leave}
 use Rattle.rules.proofs.KeepsScan.{Walking, walking, walking-leaves, walking-fits, walking-passed, by-walk}
 use Rattle.rules.proofs.Decisions.{by-release, by-drop-queued}
 use Rattle.rules.proofs.Accepting.{Releasable, Allowed, accepted}
+use Rattle.rules.proofs.Acting.{by-act}
 use Rattle.rules.proofs.KeepsSteps.{sound-added, take-fits, by-refusal}
 use Rattle.rules.proofs.Counts.{Counted, asked-fits}
 use Rattle.rules.proofs.KeepsCounts.{counted-leave, counted-grant, counted-added, Fitting, fitting-step}
@@ -107,20 +106,20 @@ module _ (n : ℕ) where
     drop-grants-fit Nothing t x k = tt
 
     act-grants-fit : (t : TaskId) (a : Act) → t .0 < n → Allowed t a s → Each (GrantFits n) (effectOf t a s .grants)
-    unfolding effectOf make poll dropRequest
-    act-grants-fit t (Acquire m) l k = tt
-    act-grants-fit t (AcquireBypassable m) l k = tt
-    act-grants-fit t (AcquireReserving least m) l k = tt
-    act-grants-fit t (Upgrade held wanted) l k = tt
-    act-grants-fit t (Poll x) l k = poll-grants-fit (polling x s) t x l (k .used)
-    act-grants-fit t (Try m) l k = try-grants-fit (direct Back m s) t m l (take-fits Back m s)
-    act-grants-fit t (TryUpgrade held wanted) l k =
-        try-grants-fit (direct Front (wanted - held) s) t (wanted - held) l (take-fits Front (wanted - held) s)
-    act-grants-fit t (Release m) l k = release-grants-fit t m k
-    act-grants-fit t (Drop x) l k = drop-grants-fit (dropping x s) t x (k .1)
-    act-grants-fit t Close l k = tt
-    act-grants-fit t Sleep l k = tt
-    act-grants-fit t Finish l k = tt
+    unfolding make poll dropRequest
+    act-grants-fit t a l k =
+        by-act {X = λ o r. Each (GrantFits n) (r .grants)}
+        (record {
+          makes = λ b m. tt;
+          polls = λ x p. poll-grants-fit (polling x s) t x l (p .used);
+          tries = λ p m o c. try-grants-fit (direct p m s) t m l (take-fits p m s);
+          releases = λ m r. release-grants-fit t m r;
+          drops = λ x u r. drop-grants-fit (dropping x s) t x r;
+          closes = tt;
+          sleeps = tt;
+          finishes = tt;
+        })
+        a k
 
   step-grants-fit : (a : Step) (s : State) → Fitting n s → Each (GrantFits n) (step a s .grants)
   step-grants-fit a s h =

@@ -11,7 +11,6 @@ use Rattle.rules.specs.declared.TaskId.{TaskId}
 use Rattle.rules.specs.declared.Slot.{Slot}
 use Rattle.rules.specs.declared.Ask.{Ask}
 use Rattle.rules.specs.declared.Grant.{Grant}
-use Rattle.rules.specs.declared.Priority.the-variants.{Back, Bypassable, Front}
 use Rattle.rules.specs.declared.Direct.{Direct}
 use Rattle.rules.specs.declared.Direct.the-variants.{Shut, NoPermits, Take}
 use Rattle.rules.specs.declared.Polling.{Polling}
@@ -19,19 +18,18 @@ use Rattle.rules.specs.declared.Polling.the-variants.{Holds, IsClosed, S
 use Rattle.rules.specs.declared.Dropping.{Dropping}
 use Rattle.rules.specs.declared.Dropping.the-variants.{Leaving, Unreserving, Returning, Nothing}
 use Rattle.rules.specs.declared.Act.{Act}
-use Rattle.rules.specs.declared.Act.the-variants.{Acquire, AcquireBypassable, AcquireReserving, Upgrade, Poll, Try, TryUpgrade, Release, Drop, Close, Sleep, Finish}
 use Rattle.rules.specs.declared.Step.{Step}
 use Rattle.rules.specs.Sizes.{slotCount, batchCount, width, largest}
 use Rattle.rules.specs.Clock.{empty}
 use Rattle.rules.specs.Task.{Task, noTask, ticked, joined, slept, finished}
-use Rattle.rules.specs.Request.{Request, queuedAs, held, polledPending, polledGranted, polledClosed, plainAsk, reservingAsk}
-use Rattle.rules.specs.State.{Batch, Permits, State, strict, stock, taskAt, requestAt, askedAt, taskOf, withReservation, alterTask, alterRequest}
+use Rattle.rules.specs.Request.{Request, queuedAs, held, polledPending, polledGranted, polledClosed}
+use Rattle.rules.specs.State.{Batch, Permits, State, stock, taskAt, requestAt, askedAt, taskOf, withReservation, alterTask, alterRequest}
 use Rattle.rules.specs.Fresh.{Start, freshTasks, freshBatches, fresh, refuses12}
 use Rattle.rules.specs.Taking.{taking, takeAs, takeQueued, direct}
 use Rattle.rules.specs.Scan.{leave, queueBack, queueFront, grantQueued, walk, scan}
 use Rattle.rules.specs.Waking.{wakeUnfair, reblock}
 use Rattle.rules.specs.Polling.{polling, pollWork, pollMark, polled, takesIn}
-use Rattle.rules.specs.Steps.{make, upgradeAsk, failTry, tryBy, poll, addReleased, release, dropping, dropWork, free, dropRequest, emptyQueue, dropReservation, closing, effectOf}
+use Rattle.rules.specs.Steps.{make, failTry, tryBy, poll, addReleased, release, dropping, dropWork, free, dropRequest, emptyQueue, dropReservation, closing, effectOf}
 use Rattle.rules.specs.Refusals.{returned}
 use Rattle.rules.specs.Runs.{step, run}
 use Rattle.rules.specs.Broken.{standingBatches}
@@ -41,13 +39,10 @@ use Rattle.rules.proofs.Eaches.{each-member, each-append, each-set, eac
 use Rattle.rules.proofs.Tasks.{rouse-awake, by-cleared, rouse-unfair, rouse-unfinished, reblocks}
 use Rattle.rules.proofs.KeepsScan.{by-walk}
 use Rattle.rules.proofs.Accepting.{Releasable, MayTick, Allowed, accepted, startable}
+use Rattle.rules.proofs.Acting.{by-asking, asks-fit}
 use Rattle.rules.proofs.Decisions.{by-release, by-drop-queued}
 use Rattle.rules.proofs.KeepsSteps.{by-closing, by-refusal, fresh-number, sound-step, sound-fresh}
 use Rattle.rules.proofs.Counts.{first-fits, join-fits, tick-fits, empty-fits, taking-fits, adding-fits, Counted, counted-roused, task-fits, counted-task, counted-slots, slots-altered, counted-permits, request-fits}
-
-upgrade-fits : (b : Bool) (m : ℕ) → m ≤ largest → (upgradeAsk b m .asked ≤ largest) × (upgradeAsk b m .least ≤ largest)
-upgrade-fits true m l = (l, l)
-upgrade-fits false m l = (l, omega arith)
 
 -- Pieces of the rules, on a state of n tasks.
 
@@ -205,22 +200,20 @@ module _ (n : ℕ) where
       go (some x) {b} k = counted-roused n (rouse-unfinished x (withReservation none b)) (counted-reservation none b k)
 
   counted-act : (t : TaskId) (a : Act) (s : State) → t .0 < n → Allowed t a s → ActFits a → Counted n s → Counted n (effectOf t a s .state)
-  unfolding effectOf poll dropRequest
-  counted-act t (Acquire m) s l k f h = counted-make s h t (plainAsk Back m) l f f
-  counted-act t (AcquireBypassable m) s l k f h = counted-make s h t (plainAsk Bypassable m) l f f
-  counted-act t (AcquireReserving least m) s l k f h = counted-make s h t (reservingAsk least m) l (f .1) (f .0)
-  counted-act t (Upgrade held wanted) s l k f h =
-      let less : wanted - held ≤ largest = omega (arith, f .1) in
-      let u = upgrade-fits (strict s) (wanted - held) less in
-      counted-make s h t (upgradeAsk (strict s) (wanted - held)) l (u .0) (u .1)
-  counted-act t (Poll x) s l k f h = counted-poll s h (polling x s) t x l (k .tick)
-  counted-act t (Try m) s l k f h = counted-try s h (direct Back m s) t m (k .1)
-  counted-act t (TryUpgrade held wanted) s l k f h = counted-try s h (direct Front (wanted - held) s) t (wanted - held) (k .1)
-  counted-act t (Release m) s l k f h = counted-release s h t m k
-  counted-act t (Drop x) s l k f h = counted-free x _ (counted-drop s h (dropping x s) t x (k .1))
-  counted-act t Close s l k f h = counted-closing s h
-  counted-act t Sleep s l k f h = counted-task n t slept s (task-fits n t s h) h
-  counted-act t Finish s l k f h = counted-task n t finished s (task-fits n t s h) h
+  unfolding poll dropRequest
+  counted-act t a s l k f h =
+      by-asking {X = λ o r. Counted n (r .state)}
+      (record {
+        makes = λ b m. counted-make s h t b l (m .such .0) (m .such .1);
+        polls = λ x p. counted-poll s h (polling x s) t x l (p .tick);
+        tries = λ p m o c. counted-try s h (direct p m s) t m c;
+        releases = λ m r. counted-release s h t m r;
+        drops = λ x u r. counted-free x _ (counted-drop s h (dropping x s) t x r);
+        closes = counted-closing s h;
+        sleeps = counted-task n t slept s (task-fits n t s h) h;
+        finishes = counted-task n t finished s (task-fits n t s h) h;
+      })
+      a (asks-fit a s f) k
 
 -- Any run.
 

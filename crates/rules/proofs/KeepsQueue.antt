@@ -1,5 +1,5 @@
 -- Each change of a request, of the queue and of the reservation that the rules make keeps a state sound.
-use Prim.Native.Nat.{ℕ, _≤_, _<_}
+use Prim.Native.Nat.{ℕ, _<_}
 use native.Mathlib.Omega.{arith}
 use mathlib.Core.Path.{_≡_, refl, sym, ap, subst, _∙_}
 use mathlib.Core.Bool.{true, false, false≢true}
@@ -11,7 +11,7 @@ use Rattle.rules.specs.declared.Slot.{Slot}
 use Rattle.rules.specs.declared.Ask.{Ask}
 use Rattle.rules.specs.Sizes.{slotCount}
 use Rattle.rules.specs.Request.{Request, noRequest, queuedAs, polledPending}
-use Rattle.rules.specs.State.{State, strict, sameSlot, isThe, hasReservation, inUse, requestAt, withQueue, withReservation, withSlots, alterRequest, close}
+use Rattle.rules.specs.State.{State, sameSlot, isThe, hasReservation, inUse, requestAt, withQueue, withReservation, withSlots, alterRequest, close}
 use Rattle.rules.specs.Scan.{without, leave}
 use Rattle.rules.specs.Steps.{free}
 use Rattle.rules.specs.Broken.{member, twice}
@@ -19,6 +19,7 @@ use Rattle.rules.specs.Sound.{Waits, IsReserved, WellMade, Sound}
 use Rattle.rules.proofs.Bools.{by-test, clash}
 use Rattle.rules.proofs.Queues.{same-slot, slot-same, member-behind, member-before, member-middle, once-cons, once-snoc, without-empty, member-without, gone-without, once-without, pigeonhole}
 use Rattle.rules.proofs.Slots.{used-below, slot-set, slot-beside, request-altered, used-altered, altered-beside, field-altered, field-set}
+use Rattle.rules.proofs.Acting.{MayMake}
 use Rattle.rules.proofs.Keeping.{Beside, sound-at, sound-of, sound-alike, sound-beside}
 
 -- Requests that wait.
@@ -306,10 +307,6 @@ sound-reserved x t s u r g c o l h =
     still g = ask-altered x (polledPending t) a (λ q. refl) g ∙ ap (λ (q : Request). g (q .ask)) left
 
 -- A slot freed, and a slot filled.
-
--- a reserving ask that neither 6 nor 7 refuses
-abbrev pub MayMake : Ask → State → Type 0
-MayMake a s = (strict s ≡ false) × (0 < a .asked) × (a .least ≤ a .asked)
 
 module _ (x : Slot) (o : Option Request) (s : State) where
   abbrev pub filled : State

@@ -1,8 +1,8 @@
 -- Every accepted step keeps a state sound; so does every step and every run; and every fresh state is sound.
-use Prim.Native.Nat.{ℕ, zero, suc, _-_, _≤_, _<_}
+use Prim.Native.Nat.{ℕ, zero, suc, _≤_, _<_}
 use native.Mathlib.Omega.{arith}
 use mathlib.Core.Path.{_≡_, refl, sym, ap, subst, _∙_}
-use mathlib.Core.Bool.{Bool, true, false, cond, not, _&&_, _||_, false≢true}
+use mathlib.Core.Bool.{Bool, true, false, cond, not, _&&_, _||_}
 use mathlib.Core.List.{List, [], _∷_}
 use mathlib.Core.Option.{Option, none, some}
 use lib.Dec.{eqb}
@@ -11,7 +11,6 @@ use Rattle.rules.specs.declared.TaskId.{TaskId}
 use Rattle.rules.specs.declared.Slot.{Slot}
 use Rattle.rules.specs.declared.Ask.{Ask}
 use Rattle.rules.specs.declared.Priority.{Priority}
-use Rattle.rules.specs.declared.Priority.the-variants.{Back, Bypassable, Front}
 use Rattle.rules.specs.declared.Direct.{Direct}
 use Rattle.rules.specs.declared.Direct.the-variants.{Shut, NoPermits, Take}
 use Rattle.rules.specs.declared.Polling.{Polling}
@@ -19,17 +18,16 @@ use Rattle.rules.specs.declared.Polling.the-variants.{Holds, IsClosed, S
 use Rattle.rules.specs.declared.Dropping.{Dropping}
 use Rattle.rules.specs.declared.Dropping.the-variants.{Leaving, Unreserving, Returning, Nothing}
 use Rattle.rules.specs.declared.Act.{Act}
-use Rattle.rules.specs.declared.Act.the-variants.{Acquire, AcquireBypassable, AcquireReserving, Upgrade, Poll, Try, TryUpgrade, Release, Drop, Close, Sleep, Finish}
 use Rattle.rules.specs.declared.Step.{Step}
 use Rattle.rules.specs.Sizes.{maxTasks, slotCount}
 use Rattle.rules.specs.Task.{Task, noTask, ticked, slept, finished}
-use Rattle.rules.specs.Request.{Request, queuedAs, polledPending, polledGranted, polledClosed, plainAsk, reservingAsk}
-use Rattle.rules.specs.State.{Batch, State, strict, stock, isSome, isThe, hasReservation, inUse, requestAt, askedAt, taskOf, ownerFinished, unblockAndWake, withQueue, withReservation, alterRequest, close}
+use Rattle.rules.specs.Request.{Request, queuedAs, polledPending, polledGranted, polledClosed}
+use Rattle.rules.specs.State.{Batch, State, stock, isSome, isThe, hasReservation, inUse, requestAt, askedAt, taskOf, ownerFinished, unblockAndWake, withQueue, withReservation, alterRequest, close}
 use Rattle.rules.specs.Taking.{takeAs, direct}
 use Rattle.rules.specs.Scan.{without, leave}
 use Rattle.rules.specs.Waking.{wakeUnfair, reblock}
 use Rattle.rules.specs.Polling.{polling, pollWork, pollMark, polled}
-use Rattle.rules.specs.Steps.{Outcome, lowestFree, make, upgradeAsk, tryBy, poll, addReleased, release, dropping, dropWork, free, dropRequest, emptyQueue, dropReservation, closing, wakeUnfinished, quiet, effectOf, effect}
+use Rattle.rules.specs.Steps.{Outcome, lowestFree, make, tryBy, poll, addReleased, release, dropping, dropWork, free, dropRequest, emptyQueue, dropReservation, closing, wakeUnfinished, quiet, effectOf, effect}
 use Rattle.rules.specs.Steps.Answer.{refused}
 use Rattle.rules.specs.Refusals.{returned, givesBack, refusal}
 use Rattle.rules.specs.Fresh.{Start, firstBatch, freshTasks, freshBatches, fresh, refusedFresh, refuses12}
@@ -42,11 +40,12 @@ use Rattle.rules.proofs.Slots.{free-request, used-below, alter-twice}
 use Rattle.rules.proofs.Batches.{first-adds-up, sound-adding}
 use Rattle.rules.proofs.Tasks.{roused-number, roused-keeps, rouse-unfinished, reblocks}
 use Rattle.rules.proofs.Keeping.{sound-of, sound-permits, sound-tasks, sound-alter-task, sound-roused, sound-unreserved, sound-wake}
-use Rattle.rules.proofs.KeepsQueue.{MayMake, Joins, joins-back, joins-front, sound-joined, sound-aside, sound-pending, sound-leave, sound-reserved, sound-filled, sound-free, sound-close, not-reserved, not-queued, queued-unreserved, has-reservation}
+use Rattle.rules.proofs.KeepsQueue.{Joins, joins-back, joins-front, sound-joined, sound-aside, sound-pending, sound-leave, sound-reserved, sound-filled, sound-free, sound-close, not-reserved, not-queued, queued-unreserved, has-reservation}
 use Rattle.rules.proofs.KeepsTaking.{sound-take}
 use Rattle.rules.proofs.KeepsScan.{sound-scan}
 use Rattle.rules.proofs.Departing.{NoMore, no-more-then, no-more-take, no-more-scan, no-more-wake, no-more-roused, no-more-release}
 use Rattle.rules.proofs.Accepting.{Releasable, Pollable, HasSlot, Allowed, accepted, startable}
+use Rattle.rules.proofs.Acting.{MayMake, by-act}
 use Rattle.rules.proofs.Decisions.{DirectSays, direct-says, Queueing, PollSays, poll-says, by-release, by-drop-queued, DropSays, drop-says}
 
 -- Make.
@@ -72,10 +71,6 @@ pub sound-make : (t : TaskId) (a : Ask) (s : State) → HasSlot s → (a .reserv
 unfolding make
 sound-make t a s l m h =
     sound-filled (newSlot s) _ s l (new-unqueued s h) (not-reserved (newSlot s) s h (λ r. clash (r .waits .used) (new-unused s))) refl m h
-
-pub upgrade-made : (b : Bool) (n : ℕ) (s : State) → 0 < n → strict s ≡ b → upgradeAsk b n .reserving ≡ true → MayMake (upgradeAsk b n) s
-upgrade-made true n s l e r = absurd (false≢true r)
-upgrade-made false n s l e r = (e, l, omega arith)
 
 -- Poll.
 
@@ -271,22 +266,19 @@ pub take-fits : (k : Priority) (n : ℕ) (s : State) → direct k n s ≡ Take �
 take-fits k n s e = subst (λ (d : Direct). DirectSays d k n s) e (direct-says k n s) .3
 
 sound-act : (t : TaskId) (a : Act) (s : State) → t .0 < length (s .tasks) → Allowed t a s → Sound s → Sound (effectOf t a s .state)
-unfolding effectOf
-sound-act t (Acquire n) s l k h = sound-make t (plainAsk Back n) s k (λ r. absurd (false≢true r)) h
-sound-act t (AcquireBypassable n) s l k h = sound-make t (plainAsk Bypassable n) s k (λ r. absurd (false≢true r)) h
-sound-act t (AcquireReserving least n) s l k h = sound-make t (reservingAsk least n) s (k .3) (λ r. (k .0, k .1, k .2)) h
-sound-act t (Upgrade held wanted) s l k h =
-    let more = k .0 .more in
-    sound-make t (upgradeAsk (strict s) (wanted - held)) s (k .1) (upgrade-made (strict s) (wanted - held) s (omega arith) refl) h
-sound-act t (Poll x) s l k h = sound-poll t x s l k h
-sound-act t (Try n) s l k h = sound-try (direct Back n s) t n s (take-fits Back n s) h
-sound-act t (TryUpgrade held wanted) s l k h =
-    sound-try (direct Front (wanted - held) s) t (wanted - held) s (take-fits Front (wanted - held) s) h
-sound-act t (Release n) s l k h = sound-release t n s k h
-sound-act t (Drop x) s l k h = sound-drop t x s (k .0) (k .1) h
-sound-act t Close s l k h = sound-closing s h
-sound-act t Sleep s l k h = sound-alter-task t slept s h
-sound-act t Finish s l k h = sound-alter-task t finished s h
+sound-act t a s l k h =
+    by-act {X = λ o r. Sound (r .state)}
+    (record {
+      makes = λ b m. sound-make t b s (m .slot) (m .reserving) h;
+      polls = λ x p. sound-poll t x s l p h;
+      tries = λ p n m c. sound-try (direct p n s) t n s (take-fits p n s) h;
+      releases = λ n r. sound-release t n s r h;
+      drops = λ x u r. sound-drop t x s u r h;
+      closes = sound-closing s h;
+      sleeps = sound-alter-task t slept s h;
+      finishes = sound-alter-task t finished s h;
+    })
+    a k
 
 pub sound-effect : (a : Step) (s : State) → refusal a s ≡ none → Sound s → Sound (effect a s .state)
 sound-effect a s e h =

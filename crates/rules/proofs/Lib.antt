@@ -1,4 +1,5 @@
 pub mod Accepting
+pub mod Acting
 pub mod Batches
 pub mod Bools
 pub mod Clocks

@@ -1,6 +1,6 @@
 -- Who is passed over: watching a step's grants changes none of them, and at each of them only Bypassable requests of unfinished tasks that ask for
 -- more than the stock stand ahead in the queue.
-use Prim.Native.Nat.{ℕ, _-_}
+use Prim.Native.Nat.{ℕ}
 use native.Mathlib.Omega.{arith}
 use mathlib.Core.Path.{_≡_, refl, sym, ap, subst, _∙_}
 use mathlib.Core.Bool.{Bool, true, false, cond, _&&_, _||_}
@@ -18,15 +18,13 @@ use Rattle.rules.specs.declared.Polling.{Polling}
 use Rattle.rules.specs.declared.Polling.the-variants.{Holds, IsClosed, Stays, QueuesBack, QueuesFront, TakesReserved, Takes, Reserves}
 use Rattle.rules.specs.declared.Dropping.{Dropping}
 use Rattle.rules.specs.declared.Dropping.the-variants.{Leaving, Unreserving, Returning, Nothing}
-use Rattle.rules.specs.declared.Priority.the-variants.{Back, Front}
 use Rattle.rules.specs.declared.Act.{Act}
-use Rattle.rules.specs.declared.Act.the-variants.{Acquire, AcquireBypassable, AcquireReserving, Upgrade, Poll, Try, TryUpgrade, Release, Drop, Close, Sleep, Finish}
 use Rattle.rules.specs.declared.Step.{Step}
 use Rattle.rules.specs.State.{State, strict, askedAt}
 use Rattle.rules.specs.Taking.{direct}
 use Rattle.rules.specs.Scan.{Granting, leave, verdict, grantQueued, turn, walk, scan}
 use Rattle.rules.specs.Polling.{polling, pollGrants}
-use Rattle.rules.specs.Steps.{_does_, make, tryBy, poll, addReleased, release, dropping, isFirst, frontBypassable, dropQueued, dropWork, dropRequest, effectOf}
+use Rattle.rules.specs.Steps.{Sort, bySort, _does_, make, tryBy, poll, addReleased, release, dropping, isFirst, frontBypassable, dropQueued, dropWork, dropRequest, effectOf}
 use Rattle.rules.specs.Refusals.{returned, refusal}
 use Rattle.rules.specs.Runs.{Said, unless, step, run}
 use Rattle.rules.specs.Broken.{member}
@@ -37,6 +35,7 @@ use Rattle.rules.proofs.Eaches.{each-append}
 use Rattle.rules.proofs.KeepsQueue.{sound-leave}
 use Rattle.rules.proofs.KeepsScan.{Says, verdict-says, Walking, walking, walking-leaves, walking-fits, walking-passed}
 use Rattle.rules.proofs.Accepting.{Releasable, Allowed, accepted}
+use Rattle.rules.proofs.Acting.{by-act}
 use Rattle.rules.proofs.Decisions.{PollSays, poll-says}
 use Rattle.rules.proofs.KeepsSteps.{sound-added}
 use Rattle.rules.proofs.Stranded.{Served, served-step, plain, taker-unqueued}
@@ -92,32 +91,38 @@ watches-drop Unreserving t x s = refl
 watches-drop Returning t x s = watches-release t (askedAt x s) s
 watches-drop Nothing t x s = refl
 
+-- the moments of a step's grants, by its sort
+abbrev watchedBy : Sort → TaskId → State → List Grant → List Moment
+watchedBy o t s gs =
+    bySort o (λ n. watchRelease t n s) (λ x. watchDrop (dropping x s) t x s) (map (λ (g : Grant). record { grant = g; state = s }) gs)
+
 at-once-grants : (s : State) (gs : List Grant) → grantsOf (map (λ (g : Grant). record { grant = g; state = s }) gs) ≡ gs
 at-once-grants s [] = refl
 at-once-grants s (g ∷ gs) = ap (λ (hs : List Grant). g ∷ hs) (at-once-grants s gs)
 
-watches-act : (t : TaskId) (a : Act) (s : State) → grantsOf (watchAct t a s) ≡ effectOf t a s .grants
-unfolding watchAct effectOf dropRequest
-watches-act t (Acquire n) s = at-once-grants s _
-watches-act t (AcquireBypassable n) s = at-once-grants s _
-watches-act t (AcquireReserving least n) s = at-once-grants s _
-watches-act t (Upgrade held wanted) s = at-once-grants s _
-watches-act t (Poll x) s = at-once-grants s _
-watches-act t (Try n) s = at-once-grants s _
-watches-act t (TryUpgrade held wanted) s = at-once-grants s _
-watches-act t (Release n) s = watches-release t n s
-watches-act t (Drop x) s = watches-drop (dropping x s) t x s
-watches-act t Close s = at-once-grants s _
-watches-act t Sleep s = at-once-grants s _
-watches-act t Finish s = at-once-grants s _
+watches-act : (t : TaskId) (a : Act) (s : State) → Allowed t a s → grantsOf (watchAct t a s) ≡ effectOf t a s .grants
+unfolding watchAct dropRequest
+watches-act t a s k =
+    by-act {X = λ o r. grantsOf (watchedBy o t s (r .grants)) ≡ r .grants}
+    (record {
+      makes = λ b m. at-once-grants s _;
+      polls = λ x p. at-once-grants s _;
+      tries = λ p n m c. at-once-grants s _;
+      releases = λ n r. watches-release t n s;
+      drops = λ x u r. watches-drop (dropping x s) t x s;
+      closes = at-once-grants s _;
+      sleeps = at-once-grants s _;
+      finishes = at-once-grants s _;
+    })
+    a k
 
 watches-step : (a : Step) (s : State) → grantsOf (ifAccepted (refusal a s) (watchAct (a .actor) (a .act) s) []) ≡ step a s .grants
 unfolding step
-watches-step a s = go (refusal a s)
+watches-step a s = go (refusal a s) refl
   where
-    go : (o : Option ℕ) → grantsOf (ifAccepted o (watchAct (a .actor) (a .act) s) []) ≡ unless o a s .grants
-    go none = watches-act (a .actor) (a .act) s
-    go (some n) = refl
+    go : (o : Option ℕ) → refusal a s ≡ o → grantsOf (ifAccepted o (watchAct (a .actor) (a .act) s) []) ≡ unless o a s .grants
+    go none e = watches-act (a .actor) (a .act) s (accepted a s e .allowed)
+    go (some n) e = refl
 
 -- for each step of a run, the grants that it returned
 pub watches-run : (as′ : List Step) (s : State) → map grantsOf (watchRun as′ s) ≡ map (λ (o : Said). o .grants) (run as′ s .said)
@@ -199,19 +204,20 @@ module _ (s : State) (v : Served s) where
   drop-watched Nothing t x k = tt
 
   act-watched : (t : TaskId) (a : Act) → Allowed t a s → PassesOnlySuch (t does a) (watchAct t a s)
-  unfolding watchAct effectOf make poll
-  act-watched t (Acquire n) k = tt
-  act-watched t (AcquireBypassable n) k = tt
-  act-watched t (AcquireReserving least n) k = tt
-  act-watched t (Upgrade held wanted) k = tt
-  act-watched t (Poll x) k = poll-watched (polling x s) t x (poll-says x s)
-  act-watched t (Try n) k = try-watched (direct Back n s) t n
-  act-watched t (TryUpgrade held wanted) k = try-watched (direct Front (wanted - held) s) t (wanted - held)
-  act-watched t (Release n) k = release-watched t n k
-  act-watched t (Drop x) k = drop-watched (dropping x s) t x (k .1)
-  act-watched t Close k = tt
-  act-watched t Sleep k = tt
-  act-watched t Finish k = tt
+  unfolding watchAct make poll
+  act-watched t a k =
+      by-act {X = λ o r. Each (bySort o (λ n. FromQueue) (λ x. FromQueue) TakenAtOnce) (watchedBy o t s (r .grants))}
+      (record {
+        makes = λ b m. tt;
+        polls = λ x p. poll-watched (polling x s) t x (poll-says x s);
+        tries = λ p n m c. try-watched (direct p n s) t n;
+        releases = λ n r. release-watched t n r;
+        drops = λ x u r. drop-watched (dropping x s) t x r;
+        closes = tt;
+        sleeps = tt;
+        finishes = tt;
+      })
+      a k
 
   step-watched : (a : Step) (o : Option ℕ) → refusal a s ≡ o → PassesOnlySuch a (ifAccepted o (watchAct (a .actor) (a .act) s) [])
   step-watched a none e = act-watched (a .actor) (a .act) (accepted a s e .allowed)

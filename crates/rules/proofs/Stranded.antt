@@ -1,6 +1,6 @@
 -- Nobody is stranded: on a strictly fair semaphore, after every step, each queued request up to and including the first that is not Bypassable
 -- asks for more than the stock.
-use Prim.Native.Nat.{ℕ, _-_, _≤_, _<_}
+use Prim.Native.Nat.{ℕ, _≤_, _<_}
 use native.Mathlib.Omega.{arith}
 use mathlib.Core.Path.{_≡_, refl, sym, ap, subst, _∙_}
 use mathlib.Core.Bool.{Bool, true, false, cond, not, _&&_, _||_}
@@ -13,7 +13,6 @@ use Rattle.rules.specs.declared.Ask.{Ask}
 use Rattle.rules.specs.declared.Fairness.{Fairness}
 use Rattle.rules.specs.declared.Fairness.the-variants.{StrictlyFair}
 use Rattle.rules.specs.declared.Grant.{Grant}
-use Rattle.rules.specs.declared.Priority.the-variants.{Back, Bypassable, Front}
 use Rattle.rules.specs.declared.Direct.{Direct}
 use Rattle.rules.specs.declared.Direct.the-variants.{Shut, NoPermits, Take}
 use Rattle.rules.specs.declared.Polling.{Polling}
@@ -21,16 +20,15 @@ use Rattle.rules.specs.declared.Polling.the-variants.{Holds, IsClosed, S
 use Rattle.rules.specs.declared.Dropping.{Dropping}
 use Rattle.rules.specs.declared.Dropping.the-variants.{Leaving, Unreserving, Returning, Nothing}
 use Rattle.rules.specs.declared.Act.{Act}
-use Rattle.rules.specs.declared.Act.the-variants.{Acquire, AcquireBypassable, AcquireReserving, Upgrade, Poll, Try, TryUpgrade, Release, Drop, Close, Sleep, Finish}
 use Rattle.rules.specs.declared.Step.{Step}
-use Rattle.rules.specs.Request.{Request, noRequest, queuedAs, polledGranted, polledClosed, polledPending, isBypassable, plainAsk, reservingAsk}
+use Rattle.rules.specs.Request.{Request, noRequest, queuedAs, polledGranted, polledClosed, polledPending, isBypassable}
 use Rattle.rules.specs.State.{State, isStrict, strict, stock, isSome, isThe, sameSlot, requestAt, askedAt, withQueue, alterRequest, close}
 use Rattle.rules.specs.Fresh.{Start, fresh, refuses12}
 use Rattle.rules.specs.Taking.{takeAs, taking, direct, allBypassable}
 use Rattle.rules.specs.Scan.{without, leave, walk, scan}
 use Rattle.rules.specs.Waking.{reblock}
 use Rattle.rules.specs.Polling.{polling, pollWork, pollMark, polled}
-use Rattle.rules.specs.Steps.{make, upgradeAsk, tryBy, poll, addReleased, release, dropping, isFirst, frontBypassable, dropWork, dropRequest, emptyQueue, dropReservation, closing, effectOf}
+use Rattle.rules.specs.Steps.{make, tryBy, poll, addReleased, release, dropping, isFirst, frontBypassable, dropWork, dropRequest, emptyQueue, dropReservation, closing, effectOf}
 use Rattle.rules.specs.Refusals.{returned}
 use Rattle.rules.specs.Runs.{step, run}
 use Rattle.rules.specs.Broken.{anyOf, member}
@@ -43,6 +41,7 @@ use Rattle.rules.proofs.Tasks.{Roused, roused-keeps, reblocks}
 use Rattle.rules.proofs.KeepsQueue.{filled, sound-leave}
 use Rattle.rules.proofs.Departing.{no-more-take}
 use Rattle.rules.proofs.Accepting.{Releasable, Allowed, accepted}
+use Rattle.rules.proofs.Acting.{by-act}
 use Rattle.rules.proofs.Decisions.{mayPass, DirectSays, Taking, PollSays, poll-says, by-release, by-drop-queued, DropSays, drop-says}
 use Rattle.rules.proofs.KeepsSteps.{newSlot, new-unqueued, sound-added, sound-drop-work, empties, empties-reservation, by-closing, by-refusal, by-run, sound-step, sound-fresh}
 use Rattle.rules.proofs.Unchanged.{fairness-step}
@@ -274,21 +273,23 @@ module _ (s : State) (v : Served s) where
       subst (λ (q : List Slot). AskTooMuch q (close (dropReservation (s .reservation) (emptyQueue (s .queue) s)))) (sym (d .1)) (nobody-queued _))
 
   act-serves : (t : TaskId) (a : Act) → Allowed t a s → AskTooMuch (effectOf t a s .state .queue) (effectOf t a s .state)
-  unfolding effectOf poll dropRequest
-  act-serves t (Acquire n) k = make-serves t (plainAsk Back n)
-  act-serves t (AcquireBypassable n) k = make-serves t (plainAsk Bypassable n)
-  act-serves t (AcquireReserving least n) k = make-serves t (reservingAsk least n)
-  act-serves t (Upgrade held wanted) k = make-serves t (upgradeAsk (strict s) (wanted - held))
-  act-serves t (Poll x) k = poll-serves (polling x s) t x (poll-says x s)
-  act-serves t (Try n) k = try-serves (direct Back n s) t n
-  act-serves t (TryUpgrade held wanted) k = try-serves (direct Front (wanted - held) s) t (wanted - held)
-  act-serves t (Release n) k = release-serves t n k
-  act-serves t (Drop x) k =
-      let d = sound-drop-work (dropping x s) t x s (drop-says x s) (k .1) (v .sound) in
-      quieter-serves (quieter-filled x none (dropWork (dropping x s) t x s .state) (d .unqueued)) (drop-serves (dropping x s) t x (drop-says x s) (k .1))
-  act-serves t Close k = closing-serves
-  act-serves t Sleep k = quieter-serves (record { queue = refl; asks = λ y m. refl; stock = omega arith }) (v .nobody)
-  act-serves t Finish k = quieter-serves (record { queue = refl; asks = λ y m. refl; stock = omega arith }) (v .nobody)
+  unfolding poll dropRequest
+  act-serves t a k =
+      by-act {X = λ o r. AskTooMuch (r .state .queue) (r .state)}
+      (record {
+        makes = λ b m. make-serves t b;
+        polls = λ x p. poll-serves (polling x s) t x (poll-says x s);
+        tries = λ p n m c. try-serves (direct p n s) t n;
+        releases = λ n r. release-serves t n r;
+        drops =
+            λ x u r.
+            let d = sound-drop-work (dropping x s) t x s (drop-says x s) r (v .sound) in
+            quieter-serves (quieter-filled x none (dropWork (dropping x s) t x s .state) (d .unqueued)) (drop-serves (dropping x s) t x (drop-says x s) r);
+        closes = closing-serves;
+        sleeps = quieter-serves (record { queue = refl; asks = λ y m. refl; stock = omega arith }) (v .nobody);
+        finishes = quieter-serves (record { queue = refl; asks = λ y m. refl; stock = omega arith }) (v .nobody);
+      })
+      a k
 
 pub served-step : (a : Step) (s : State) → Served s → Served (step a s .state)
 served-step a s v =

@@ -13,9 +13,7 @@ use Rattle.rules.specs.declared.Polling.the-variants.{Holds, IsClosed, S
 use Rattle.rules.specs.declared.Dropping.{Dropping}
 use Rattle.rules.specs.declared.Dropping.the-variants.{Leaving, Unreserving, Returning, Nothing}
 use Rattle.rules.specs.declared.Act.{Act}
-use Rattle.rules.specs.declared.Act.the-variants.{Acquire, AcquireBypassable, AcquireReserving, Upgrade, Poll, Try, TryUpgrade, Release, Drop, Close, Sleep, Finish}
 use Rattle.rules.specs.declared.Step.{Step}
-use Rattle.rules.specs.declared.Priority.the-variants.{Back}
 use Rattle.rules.specs.State.{State, askedAt, withReservation}
 use Rattle.rules.specs.Taking.{takeAs, direct}
 use Rattle.rules.specs.Scan.{leave, walk, scan}
@@ -23,6 +21,8 @@ use Rattle.rules.specs.Waking.{wakeUnfair}
 use Rattle.rules.specs.Polling.{polling, pollWork}
 use Rattle.rules.specs.Steps.{make, tryBy, poll, addReleased, release, dropping, dropWork, dropRequest, emptyQueue, dropReservation, closing, effectOf}
 use Rattle.rules.specs.Runs.{step}
+use Rattle.rules.proofs.Accepting.{Allowed, accepted}
+use Rattle.rules.proofs.Acting.{by-act}
 use Rattle.rules.proofs.Tasks.{Roused, roused-keeps, by-cleared, rouse-unfair, rouse-unfinished, reblocks}
 use Rattle.rules.proofs.Decisions.{by-release, by-drop-queued}
 use Rattle.rules.proofs.KeepsScan.{by-walk, granted-fairness}
@@ -118,20 +118,21 @@ fairness-drop Unreserving t x s = untouched-wake (withReservation none s) .fairn
 fairness-drop Returning t x s = fairness-release t (askedAt x s) s
 fairness-drop Nothing t x s = refl
 
-fairness-act : (t : TaskId) (a : Act) (s : State) → effectOf t a s .state .fairness ≡ s .fairness
-unfolding effectOf make poll dropRequest
-fairness-act t (Acquire n) s = refl
-fairness-act t (AcquireBypassable n) s = refl
-fairness-act t (AcquireReserving least n) s = refl
-fairness-act t (Upgrade held wanted) s = refl
-fairness-act t (Poll x) s = fairness-poll (polling x s) t x s
-fairness-act t (Try n) s = fairness-try (direct Back n s) t n s
-fairness-act t (TryUpgrade held wanted) s = fairness-try _ t _ s
-fairness-act t (Release n) s = fairness-release t n s
-fairness-act t (Drop x) s = fairness-drop (dropping x s) t x s
-fairness-act t Close s = untouched-closing s .fairness
-fairness-act t Sleep s = refl
-fairness-act t Finish s = refl
+fairness-act : (t : TaskId) (a : Act) (s : State) → Allowed t a s → effectOf t a s .state .fairness ≡ s .fairness
+unfolding make poll dropRequest
+fairness-act t a s k =
+    by-act {X = λ o r. r .state .fairness ≡ s .fairness}
+    (record {
+      makes = λ b m. refl;
+      polls = λ x p. fairness-poll (polling x s) t x s;
+      tries = λ p n m c. fairness-try (direct p n s) t n s;
+      releases = λ n r. fairness-release t n s;
+      drops = λ x u r. fairness-drop (dropping x s) t x s;
+      closes = untouched-closing s .fairness;
+      sleeps = refl;
+      finishes = refl;
+    })
+    a k
 
 pub fairness-step : (a : Step) (s : State) → step a s .state .fairness ≡ s .fairness
-fairness-step a s = by-refusal (λ o. o .state .fairness ≡ s .fairness) a s (λ e. fairness-act (a .actor) (a .act) s) (λ n e. refl)
+fairness-step a s = by-refusal (λ o. o .state .fairness ≡ s .fairness) a s (λ e. fairness-act (a .actor) (a .act) s (accepted a s e .allowed)) (λ n e. refl)
