@@ -8,22 +8,21 @@ use Rattle.rules.specs.declared.TaskId.{TaskId}
 use Rattle.rules.specs.declared.Grant.{Grant}
 use Rattle.rules.specs.declared.Step.{Step}
 use Rattle.rules.specs.declared.Act.{Act}
-use Rattle.rules.specs.declared.Act.the-variants.{Acquire, AcquireBypassable, AcquireReserving, Upgrade, Poll, Try, TryUpgrade, Release, Drop, Close, Sleep, Finish}
 use Rattle.rules.specs.State.{Batch}
 use Rattle.rules.specs.Steps.{Answer}
 use Rattle.rules.specs.Steps.Answer.{done, granted, pending, closed, none-left, made, refused}
-use Rattle.splitting.specs.Kept.{Kept, keptOfAct, keptStep, store, takeEach, tried, failTry, grantEach, release}
-use Rattle.splitting.specs.Times.{Known}
+use Rattle.splitting.specs.Kept.{Kept, timed, keptOfAct, keptStep, store, takeEach, tried, failTry, grantEach, release}
+use Rattle.splitting.specs.Times.{Known, timingOf}
 use Rattle.replies.specs.declared.Reply.{Reply}
 use Rattle.replies.specs.declared.Reply.the-variants.{Done, Granted, Pending, Closed, NoPermits, Made, Refused}
 use Rattle.replies.specs.Answers.{answerOf}
 use Rattle.batches.specs.declared.Batches.{Batches}
 use Rattle.batches.specs.View.{WellFormed}
-use Rattle.times.specs.declared.Change.{Change}
-use Rattle.times.specs.declared.Change.the-variants.{Makes, Takes, Tries, Gives, Stays}
+use Rattle.splitting.specs.declared.Timing.{Timing}
+use Rattle.splitting.specs.declared.Timing.the-variants.{Makes, Takes, Tries, Gives, Stays}
 use Rattle.tables.specs.Table.{table}
 use Rattle.words.specs.View.{grantsOf}
-use Rattle.times.specs.View.{keptOf, Shows, MayTick, isFailed, changeOf, changed, Able, AbleAtRest, RestsInTimes}
+use Rattle.times.specs.View.{keptOf, Shows, MayTick, isFailed, Able, AbleAtRest, RestsInTimes}
 
 -- a try that failed, and one that did not
 tried-so : (a : Answer) (t : TaskId) (w : Kept) → isFailed a ≡ true → failTry t w ≡ tried a t w
@@ -63,42 +62,31 @@ pub gave : (g r : Batches) (sizes rows last makers clocks sizes′ rows′ last�
 gave g r sizes rows last makers clocks sizes′ rows′ last′ clocks′ k gs v s q =
     shown r sizes′ rows′ last′ makers clocks′ _ _ (ap (grantEach k gs) (s .view)) q
 
-by-change : (t : TaskId) (a : Act) (o : Answer) (gs : List Grant) (k : Known) (w : Kept) → changed (changeOf a) t o gs (k .stock) (k .back) w ≡ keptOfAct t a o gs k w
+by-timing : (t : TaskId) (a : Act) (o : Answer) (gs : List Grant) (k : Known) (w : Kept) → timed (timingOf a) t o gs (k .stock) (k .back) w ≡ keptOfAct t a o gs k w
 unfolding keptOfAct
-by-change t (Acquire n) o gs k w = refl
-by-change t (AcquireBypassable n) o gs k w = refl
-by-change t (AcquireReserving least n) o gs k w = refl
-by-change t (Upgrade held wanted) o gs k w = refl
-by-change t (Poll x) o gs k w = refl
-by-change t (Try n) o gs k w = refl
-by-change t (TryUpgrade held wanted) o gs k w = refl
-by-change t (Release n) o gs k w = refl
-by-change t (Drop x) o gs k w = refl
-by-change t Close o gs k w = refl
-by-change t Sleep o gs k w = refl
-by-change t Finish o gs k w = refl
+by-timing t a o gs k w = refl
 
 -- what a step may count on, and what it comes to
-module _ (a : Step) (d e : Change) (told : d ≡ changeOf (a .act)) (is : d ≡ e) where
-  pub able : (o : Answer) (count back : ℕ) (clocks : List ℕ) (bs : Option (List Batch)) → Able (changeOf (a .act)) (a .actor) o count back clocks bs → Able e (a .actor) o count back clocks bs
-  able o count back clocks bs h = let q : changeOf (a .act) ≡ e = sym told ∙ is in rw q at h
+module _ (a : Step) (d e : Timing) (told : d ≡ timingOf (a .act)) (is : d ≡ e) where
+  pub able : (o : Answer) (count back : ℕ) (clocks : List ℕ) (bs : Option (List Batch)) → Able (timingOf (a .act)) (a .actor) o count back clocks bs → Able e (a .actor) o count back clocks bs
+  able o count back clocks bs h = let q : timingOf (a .act) ≡ e = sym told ∙ is in rw q at h
 
-  by-step : (o : Answer) (gs : List Grant) (k : Known) (w : Kept) → changed e (a .actor) o gs (k .stock) (k .back) w ≡ keptStep a o gs k w
-  by-step o gs k w = ap (λ (x : Change). changed x (a .actor) o gs (k .stock) (k .back) w) (sym is ∙ told) ∙ by-change (a .actor) (a .act) o gs k w
+  by-step : (o : Answer) (gs : List Grant) (k : Known) (w : Kept) → timed e (a .actor) o gs (k .stock) (k .back) w ≡ keptStep a o gs k w
+  by-step o gs k w = ap (λ (x : Timing). timed x (a .actor) o gs (k .stock) (k .back) w) (sym is ∙ told) ∙ by-timing (a .actor) (a .act) o gs k w
 
-  pub stepped : (o : Answer) (gs : List Grant) (k : Known) (w : Kept) (r : Batches) (sizes rows last makers clocks : List ℕ) → Shows r sizes rows last makers clocks (changed e (a .actor) o gs (k .stock) (k .back) w) → Shows r sizes rows last makers clocks (keptStep a o gs k w)
+  pub stepped : (o : Answer) (gs : List Grant) (k : Known) (w : Kept) (r : Batches) (sizes rows last makers clocks : List ℕ) → Shows r sizes rows last makers clocks (timed e (a .actor) o gs (k .stock) (k .back) w) → Shows r sizes rows last makers clocks (keptStep a o gs k w)
   stepped o gs k w r sizes rows last makers clocks s = shown r sizes rows last makers clocks _ _ (by-step o gs k w) s
 
 -- the same of a step at rest
-able-failed : (a : Step) (d : Change) (o : Answer) (clocks : List ℕ) → d ≡ changeOf (a .act) → d ≡ Tries → AbleAtRest (changeOf (a .act)) (a .actor) o clocks → (MayTick (a .actor) clocks) × (isFailed o ≡ true)
-able-failed a d o clocks told is h = subst (λ (x : Change). AbleAtRest x (a .actor) o clocks) (sym told ∙ is) h
+able-failed : (a : Step) (d : Timing) (o : Answer) (clocks : List ℕ) → d ≡ timingOf (a .act) → d ≡ Tries → AbleAtRest (timingOf (a .act)) (a .actor) o clocks → (MayTick (a .actor) clocks) × (isFailed o ≡ true)
+able-failed a d o clocks told is h = subst (λ (x : Timing). AbleAtRest x (a .actor) o clocks) (sym told ∙ is) h
 
-pub able-tick : (a : Step) (d : Change) (o : Answer) (clocks : List ℕ) → d ≡ changeOf (a .act) → d ≡ Tries → AbleAtRest (changeOf (a .act)) (a .actor) o clocks → MayTick (a .actor) clocks
+pub able-tick : (a : Step) (d : Timing) (o : Answer) (clocks : List ℕ) → d ≡ timingOf (a .act) → d ≡ Tries → AbleAtRest (timingOf (a .act)) (a .actor) o clocks → MayTick (a .actor) clocks
 able-tick a d o clocks told is h = able-failed a d o clocks told is h .0
 
-module _ (a : Step) (d : Change) (told : d ≡ changeOf (a .act)) (o : Answer) (last makers clocks : List ℕ) where
-  rests : (e : Change) (makers′ clocks′ : List ℕ) → d ≡ e
-      → ((b : Batches) (sizes rows : List ℕ) (k : ℕ) → keptOf b sizes rows last makers′ clocks′ ≡ changed e (a .actor) o [] k 0 (keptOf b sizes rows last makers clocks))
+module _ (a : Step) (d : Timing) (told : d ≡ timingOf (a .act)) (o : Answer) (last makers clocks : List ℕ) where
+  rests : (e : Timing) (makers′ clocks′ : List ℕ) → d ≡ e
+      → ((b : Batches) (sizes rows : List ℕ) (k : ℕ) → keptOf b sizes rows last makers′ clocks′ ≡ timed e (a .actor) o [] k 0 (keptOf b sizes rows last makers clocks))
       → RestsInTimes a o last makers′ clocks′ makers clocks
   rests e makers′ clocks′ is h = λ b sizes rows k f. h b sizes rows k ∙ by-step a d e told is o [] (record { stock = k; back = 0; ticks = f }) (keptOf b sizes rows last makers clocks)
 
@@ -107,7 +95,7 @@ module _ (a : Step) (d : Change) (told : d ≡ changeOf (a .act)) (o : Answer) (
       → RestsInTimes a o last makers′ clocks makers clocks
   rests-making makers′ is h = rests Makes makers′ clocks is (λ b sizes rows k. h b sizes rows last)
 
-  pub rests-trying : (clocks′ : List ℕ) → d ≡ Tries → AbleAtRest (changeOf (a .act)) (a .actor) o clocks
+  pub rests-trying : (clocks′ : List ℕ) → d ≡ Tries → AbleAtRest (timingOf (a .act)) (a .actor) o clocks
       → ((b : Batches) (sizes rows makers : List ℕ) → keptOf b sizes rows last makers clocks′ ≡ failTry (a .actor) (keptOf b sizes rows last makers clocks))
       → RestsInTimes a o last makers clocks′ makers clocks
   unfolding takeEach

@@ -26,13 +26,13 @@ use Rattle.rules.specs.Steps.{Answer}
 use Prim.Native.Nat.{_-_}
 use Rattle.splitting.specs.Plain.{Plain, askedAt}
 use Rattle.splitting.specs.Who.{effect, effectOf, poll, polling, tryBy, direct, givesBack}
-use Rattle.splitting.specs.Times.{Known, timesRefusal, late, backOf, ticksIn}
+use Rattle.splitting.specs.Times.{Known, timesRefusal, late, timingOf, backOf, ticksIn}
 use Rattle.splitting.specs.Kept.{Kept, clockAt, timesKept}
 use Rattle.batches.specs.declared.Batches.{Batches}
 use Rattle.batches.specs.View.{standsIn}
-use Rattle.times.specs.declared.Change.{Change}
-use Rattle.times.specs.declared.Change.the-variants.{Makes, Takes, Tries, Gives, Stays}
-use Rattle.times.specs.View.{keptOf, refusalKept, lastTick, changeOf, isFailed, Able, AbleAtRest}
+use Rattle.splitting.specs.declared.Timing.{Timing}
+use Rattle.splitting.specs.declared.Timing.the-variants.{Makes, Takes, Tries, Gives, Stays}
+use Rattle.times.specs.View.{keptOf, refusalKept, lastTick, isFailed, Able, AbleAtRest}
 
 -- the refusals are those of the rules' times
 pub refusal-kept : (a : Step) (p : Plain) (k : Known) (w : Kept) → a .actor .0 < length (p .tasks) → refusalKept (a .actor) k w ≡ timesRefusal a k (timesKept p w)
@@ -58,7 +58,7 @@ module _ (t : TaskId) (k : Known) (w : Kept) (accepted : refusalKept t k w ≡ n
   has-tick h = leb-false largest (getD (clockAt t w) (t .0) 0) (second (k .ticks) (lastTick t w) h (neither (ltb 0 (k .back) && full (w .batches)) (k .ticks && lastTick t w) accepted .1))
 
 -- of a step's grants: the actor's own are at most one, it ticks where there is one, and none come with a failed try
-abbrev pub Counted : Change → Answer → ℕ → ℕ → Bool → Type 0
+abbrev pub Counted : Timing → Answer → ℕ → ℕ → Bool → Type 0
 Counted Makes o n back f = Unit {0}
 Counted Takes o n back f = (n ≤ 1) × (0 < n → f ≡ true)
 Counted Tries o n back f = (n ≤ 1) × (f ≡ true) × (isFailed o ≡ true → n ≡ 0)
@@ -75,7 +75,7 @@ counted-try Shut t n p = (omega arith, refl, λ e. refl)
 counted-try NoPermits t n p = (omega arith, refl, λ e. refl)
 counted-try Take t n p = (omega arith, refl, λ e. absurd (false≢true e))
 
-counted-of : (t : TaskId) (a : Act) (p : Plain) → Counted (changeOf a) (effectOf t a p .answer) (length (effectOf t a p .grants)) (backOf a p) (ticksIn a p)
+counted-of : (t : TaskId) (a : Act) (p : Plain) → Counted (timingOf a) (effectOf t a p .answer) (length (effectOf t a p .grants)) (backOf a p) (ticksIn a p)
 unfolding effectOf poll
 counted-of t (Acquire n) p = tt
 counted-of t (AcquireBypassable n) p = tt
@@ -90,11 +90,11 @@ counted-of t Close p = tt
 counted-of t Sleep p = tt
 counted-of t Finish p = tt
 
-pub counted : (a : Step) (p : Plain) → Counted (changeOf (a .act)) (effect a p .answer) (length (effect a p .grants)) (backOf (a .act) p) (ticksIn (a .act) p)
+pub counted : (a : Step) (p : Plain) → Counted (timingOf (a .act)) (effect a p .answer) (length (effect a p .grants)) (backOf (a .act) p) (ticksIn (a .act) p)
 counted a p = counted-of (a .actor) (a .act) p
 
 -- so a step that is not refused may be taken
-pub able-accepted : (d : Change) (t : TaskId) (o : Answer) (n : ℕ) (k : Known) (b : Batches) (sizes rows last makers clocks : List ℕ) → t .0 < maxTasks → n ≤ slotCount
+pub able-accepted : (d : Timing) (t : TaskId) (o : Answer) (n : ℕ) (k : Known) (b : Batches) (sizes rows last makers clocks : List ℕ) → t .0 < maxTasks → n ≤ slotCount
     → refusalKept t k (keptOf b sizes rows last makers clocks) ≡ none → Counted d o n (k .back) (k .ticks)
     → Able d t o n (k .back) clocks (standsIn b sizes rows)
 able-accepted Makes t o n k b sizes rows last makers clocks l few r c = tt
@@ -105,7 +105,7 @@ able-accepted Gives t o n k b sizes rows last makers clocks l few r c =
 able-accepted Stays t o n k b sizes rows last makers clocks l few r c = tt
 
 -- Of a step without grants: a try among them failed, and its actor ticks.
-abbrev pub Ungranted : Change → Answer → Bool → Type 0
+abbrev pub Ungranted : Timing → Answer → Bool → Type 0
 Ungranted Makes o f = Unit {0}
 Ungranted Takes o f = Unit {0}
 Ungranted Tries o f = (f ≡ true) × (isFailed o ≡ true)
@@ -118,7 +118,7 @@ failed-try Shut t n p e = refl
 failed-try NoPermits t n p e = refl
 failed-try Take t n p e = absurd (let z : _≡_ {A = ℕ} 1 0 = ap length e in omega arith)
 
-ungranted-of : (t : TaskId) (a : Act) (p : Plain) → effectOf t a p .grants ≡ [] → Ungranted (changeOf a) (effectOf t a p .answer) (ticksIn a p)
+ungranted-of : (t : TaskId) (a : Act) (p : Plain) → effectOf t a p .grants ≡ [] → Ungranted (timingOf a) (effectOf t a p .answer) (ticksIn a p)
 unfolding effectOf
 ungranted-of t (Acquire n) p e = tt
 ungranted-of t (AcquireBypassable n) p e = tt
@@ -133,10 +133,10 @@ ungranted-of t Close p e = tt
 ungranted-of t Sleep p e = tt
 ungranted-of t Finish p e = tt
 
-pub ungranted : (a : Step) (p : Plain) → effect a p .grants ≡ [] → Ungranted (changeOf (a .act)) (effect a p .answer) (ticksIn (a .act) p)
+pub ungranted : (a : Step) (p : Plain) → effect a p .grants ≡ [] → Ungranted (timingOf (a .act)) (effect a p .answer) (ticksIn (a .act) p)
 ungranted a p e = ungranted-of (a .actor) (a .act) p e
 
-pub able-at-rest : (d : Change) (t : TaskId) (o : Answer) (k : Known) (b : Batches) (sizes rows last makers clocks : List ℕ) → t .0 < maxTasks
+pub able-at-rest : (d : Timing) (t : TaskId) (o : Answer) (k : Known) (b : Batches) (sizes rows last makers clocks : List ℕ) → t .0 < maxTasks
     → refusalKept t k (keptOf b sizes rows last makers clocks) ≡ none → Ungranted d o (k .ticks) → AbleAtRest d t o clocks
 able-at-rest Makes t o k b sizes rows last makers clocks l r c = tt
 able-at-rest Takes t o k b sizes rows last makers clocks l r c = tt

@@ -7,24 +7,22 @@ use mathlib.Core.Option.{Option}
 use lib.Dec.{leb, ltb}
 use lib.ListN.{getD, set}
 use Rattle.rules.specs.declared.TaskId.{TaskId}
-use Rattle.rules.specs.declared.Grant.{Grant}
 use Rattle.rules.specs.declared.Step.{Step}
 use Rattle.rules.specs.Sizes.{width, maxTasks, slotCount, largest}
 use Rattle.rules.specs.Clock.{Clock, tick, empty}
 use Rattle.rules.specs.Refusals.{_if_, first, full}
 use Rattle.rules.specs.Steps.{Answer}
 use Rattle.rules.specs.Steps.Answer.{done, granted, pending, closed, none-left, made, refused}
-use Rattle.splitting.specs.Kept.{Kept, clockAt, taking, store, takeEach, tried, grantEach, release, keptStep}
+use Rattle.splitting.specs.Kept.{Kept, clockAt, taking, keptStep}
 use Rattle.rules.specs.State.{Batch}
-use Rattle.splitting.specs.Times.{Known}
+use Rattle.splitting.specs.Times.{Known, timingOf}
 use Rattle.tables.specs.Table.{row, table}
 use Rattle.batches.specs.View.{standsIn, WellFormed}
 use Rattle.batches.specs.declared.Batches.{Batches}
 use Rattle.clock.specs.declared.VectorClock.{VectorClock}
 use Rattle.rules.specs.declared.Act.{Act}
-use Rattle.rules.specs.declared.Act.the-variants.{Acquire, AcquireBypassable, AcquireReserving, Upgrade, Poll, Try, TryUpgrade, Release, Drop, Close, Sleep, Finish}
-use Rattle.times.specs.declared.Change.{Change}
-use Rattle.times.specs.declared.Change.the-variants.{Makes, Takes, Tries, Gives, Stays}
+use Rattle.splitting.specs.declared.Timing.{Timing}
+use Rattle.splitting.specs.declared.Timing.the-variants.{Makes, Takes, Tries, Gives, Stays}
 
 -- n clocks of w entries
 unfoldable pub clocksOf : ℕ → ℕ → List ℕ → List Clock
@@ -81,20 +79,8 @@ lastTick t w = leb largest (getD (clockAt t w) (t .0) 0)
 unfoldable pub refusalKept : TaskId → Known → Kept → Option ℕ
 refusalKept t k w = first (9 if (ltb 0 (k .back) && full (w .batches)) ∷ 11 if (k .ticks && lastTick t w) ∷ [])
 
--- what a step is to the times
-abbrev pub changeOf : Act → Change
-changeOf (Acquire n) = Makes
-changeOf (AcquireBypassable n) = Makes
-changeOf (AcquireReserving least n) = Makes
-changeOf (Upgrade held wanted) = Makes
-changeOf (Poll x) = Takes
-changeOf (Try n) = Tries
-changeOf (TryUpgrade held wanted) = Tries
-changeOf (Release n) = Gives
-changeOf (Drop x) = Gives
-changeOf Close = Stays
-changeOf Sleep = Stays
-changeOf Finish = Stays
+abbrev pub changeOf : Act → Timing
+changeOf a = timingOf a
 
 abbrev pub isFailed : Answer → Bool
 isFailed done = false
@@ -105,16 +91,9 @@ isFailed none-left = true
 isFailed (made x) = false
 isFailed (refused n) = false
 
-abbrev pub changed : Change → TaskId → Answer → List Grant → ℕ → ℕ → Kept → Kept
-changed Makes t a gs k n w = store a t w
-changed Takes t a gs k n w = takeEach k t gs w
-changed Tries t a gs k n w = tried a t (takeEach k t gs w)
-changed Gives t a gs k n w = grantEach k gs (release k t n w)
-changed Stays t a gs k n w = w
-
 -- What a step must find that was not refused: a number for each tick and room for the batch; and of its grants, that the actor's own are
 -- at most one, and none after a failed try.
-abbrev pub Able : Change → TaskId → Answer → ℕ → ℕ → List ℕ → Option (List Batch) → Type 0
+abbrev pub Able : Timing → TaskId → Answer → ℕ → ℕ → List ℕ → Option (List Batch) → Type 0
 Able Makes t a count back clocks bs = Unit {0}
 Able Takes t a count back clocks bs = (count ≤ 1) × (0 < count → MayTick t clocks)
 Able Tries t a count back clocks bs = (count ≤ 1) × (MayTick t clocks) × (isFailed a ≡ true → count ≡ 0)
@@ -122,7 +101,7 @@ Able Gives t a count back clocks bs = (count ≤ slotCount) × (0 < back → May
 Able Stays t a count back clocks bs = Unit {0}
 
 -- The same of a step that leaves permits, queue and reservation as they are: a try among them failed, and its actor ticks.
-abbrev pub AbleAtRest : Change → TaskId → Answer → List ℕ → Type 0
+abbrev pub AbleAtRest : Timing → TaskId → Answer → List ℕ → Type 0
 AbleAtRest Makes t a clocks = Unit {0}
 AbleAtRest Takes t a clocks = Unit {0}
 AbleAtRest Tries t a clocks = (MayTick t clocks) × (isFailed a ≡ true)

@@ -15,7 +15,8 @@ ghost use Rattle.splitting.specs.Kept.{takeQueued, takeEach, grantEach, failTry
 ghost use Rattle.batches.specs.View.{Lent, WellFormed, standsIn};
 ghost use Rattle.batches.specs.declared.Batches.{Batches};
 ghost use Rattle.words.specs.View.{grantOf, grantsOf};
-ghost use Rattle.times.specs.View.{Able, takenAs, slotMade, changeOf, isFailed, refusalKept, clocksAt, clockIn, keptOf, Shows, MayTick, Ticked, AbleAtRest, RestsInTimes};
+ghost use Rattle.splitting.specs.Times.{timingOf};
+ghost use Rattle.times.specs.View.{Able, takenAs, slotMade, isFailed, refusalKept, clocksAt, clockIn, keptOf, Shows, MayTick, Ticked, AbleAtRest, RestsInTimes};
 use batches::Batches;
 use clock::VectorClock;
 use replies::Check;
@@ -25,6 +26,7 @@ use rules::Act;
 use rules::Slot;
 use rules::Step;
 use rules::TaskId;
+use splitting::Timing;
 use words::GrantWords;
 
 pub const TASKS: usize = 16;
@@ -299,31 +301,22 @@ pub fn times_refusal(b: Batches, clocks: &[u32], me: TaskId, back: u32, ticks: b
 }
 
 // ---- a step
-// What a step is to the times.
-pub enum Change {
-    Makes,
-    Takes,
-    Tries,
-    Gives,
-    Stays,
-}
-
-fn change_of(act: Act) -> Change
-    ensures { λ r. ⌜ r ≡ changeOf act ⌝ }
+fn timing_of(act: Act) -> Timing
+    ensures { λ r. ⌜ r ≡ timingOf act ⌝ }
 {
     match act {
-        Act::Acquire(_) => Change::Makes,
-        Act::AcquireBypassable(_) => Change::Makes,
-        Act::AcquireReserving { least, asked } => Change::Makes,
-        Act::Upgrade { held, wanted } => Change::Makes,
-        Act::Poll(_) => Change::Takes,
-        Act::Try(_) => Change::Tries,
-        Act::TryUpgrade { held, wanted } => Change::Tries,
-        Act::Release(_) => Change::Gives,
-        Act::Drop(_) => Change::Gives,
-        Act::Close => Change::Stays,
-        Act::Sleep => Change::Stays,
-        Act::Finish => Change::Stays,
+        Act::Acquire(_) => Timing::Makes,
+        Act::AcquireBypassable(_) => Timing::Makes,
+        Act::AcquireReserving { least, asked } => Timing::Makes,
+        Act::Upgrade { held, wanted } => Timing::Makes,
+        Act::Poll(_) => Timing::Takes,
+        Act::Try(_) => Timing::Tries,
+        Act::TryUpgrade { held, wanted } => Timing::Tries,
+        Act::Release(_) => Timing::Gives,
+        Act::Drop(_) => Timing::Gives,
+        Act::Close => Timing::Stays,
+        Act::Sleep => Timing::Stays,
+        Act::Finish => Timing::Stays,
     }
 }
 
@@ -411,21 +404,21 @@ pub fn times_step(
     grants: &[u32],
     count: usize,
 ) -> Batches
-    requires { ⌜ (Lent (now sizes) (now rows)) × (WellFormed b) × (length (now last) ≡ width) × (length (now makers) ≡ slotCount * width) × (length (now clocks) ≡ maxTasks * width) × (length (now grants) ≡ slotCount * 3) × (Able (changeOf (step .act)) (step .actor) (answerOf reply) count back (now clocks) (standsIn b (now sizes) (now rows))) ⌝ }
+    requires { ⌜ (Lent (now sizes) (now rows)) × (WellFormed b) × (length (now last) ≡ width) × (length (now makers) ≡ slotCount * width) × (length (now clocks) ≡ maxTasks * width) × (length (now grants) ≡ slotCount * 3) × (Able (timingOf (step .act)) (step .actor) (answerOf reply) count back (now clocks) (standsIn b (now sizes) (now rows))) ⌝ }
     ensures { λ r. ⌜ ((ticks : Bool) → Shows r (now (sizes .exit)) (now (rows .exit)) (now (last .exit)) (now (makers .exit)) (now (clocks .exit)) (keptStep step (answerOf reply) (grantsOf count (now (grants .entry))) (record { stock = stock; back = back; ticks = ticks }) (keptOf b (now (sizes .entry)) (now (rows .entry)) (now (last .entry)) (now (makers .entry)) (now (clocks .entry))))) ⌝ }
 {
     let me = step.actor;
     let act = step.act;
-    let change = change_of(act);
+    let change = timing_of(act);
     match change {
-        Change::Makes => {
+        Timing::Makes => {
             make(makers, clocks, reply, me);
             return b;
         }
-        Change::Takes => {
+        Timing::Takes => {
             return take_granted(b, sizes, rows, last, clocks, stock, grants, count, me);
         }
-        Change::Tries => {
+        Timing::Tries => {
             return try_times(
                 b,
                 sizes,
@@ -439,7 +432,7 @@ pub fn times_step(
                 reply,
             );
         }
-        Change::Gives => {
+        Timing::Gives => {
             return give_times(
                 b,
                 sizes,
@@ -454,7 +447,7 @@ pub fn times_step(
                 me,
             );
         }
-        Change::Stays => {
+        Timing::Stays => {
             return b;
         }
     }
@@ -462,17 +455,17 @@ pub fn times_step(
 
 // Whatever a step that is not refused does to the times where it leaves permits, queue and reservation as they are.
 pub fn rest_times(last: &[u32], makers: &mut [u32], clocks: &mut [u32], step: Step, reply: Reply)
-    requires { ⌜ (length (now last) ≡ width) × (length (now makers) ≡ slotCount * width) × (length (now clocks) ≡ maxTasks * width) × (AbleAtRest (changeOf (step .act)) (step .actor) (answerOf reply) (now clocks)) ⌝ }
+    requires { ⌜ (length (now last) ≡ width) × (length (now makers) ≡ slotCount * width) × (length (now clocks) ≡ maxTasks * width) × (AbleAtRest (timingOf (step .act)) (step .actor) (answerOf reply) (now clocks)) ⌝ }
     ensures { λ _. ⌜ RestsInTimes step (answerOf reply) (now (last .entry)) (now (makers .exit)) (now (clocks .exit)) (now (makers .entry)) (now (clocks .entry)) ⌝ }
 {
     let me = step.actor;
     let act = step.act;
-    let change = change_of(act);
+    let change = timing_of(act);
     match change {
-        Change::Makes => make(makers, clocks, reply, me),
-        Change::Takes => {}
-        Change::Tries => fail_try(last, clocks, me),
-        Change::Gives => {}
-        Change::Stays => {}
+        Timing::Makes => make(makers, clocks, reply, me),
+        Timing::Takes => {}
+        Timing::Tries => fail_try(last, clocks, me),
+        Timing::Gives => {}
+        Timing::Stays => {}
     }
 }

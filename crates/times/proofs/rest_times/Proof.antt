@@ -4,8 +4,8 @@ use borrow.Author.Needs.{needs}
 use Rattle.times.proofs.rest_times.Statement.{statement}
 use Rattle.times.proofs.rest_times.Tie as tie
 
-change-of-requires : tie.Need-change-of-requires
-change-of-requires c κs = search needs
+timing-of-requires : tie.Need-timing-of-requires
+timing-of-requires c κs = search needs
 
 enum-told : tie.Need-enum-told
 enum-told c = search needs
@@ -56,7 +56,7 @@ pub rest-times-spec : {M : Type 1} → statement M
 rest-times-spec =
     tie.close
     (tie.spec
-    change-of-requires
+    timing-of-requires
     enum-told
     make-requires
     enum-told-2

@@ -1,13 +1,13 @@
 -- One call for each kind of step.
 use mathlib.Core.Path.{refl}
-use Rattle.times.specs.declared.Change.the-variants.{Makes, Takes, Tries, Gives, Stays}
+use Rattle.splitting.specs.declared.Timing.the-variants.{Makes, Takes, Tries, Gives, Stays}
 use Rattle.times.proofs.Stepping.{able, stepped}
 use borrow.Author.Needs.{needs}
 use Rattle.times.proofs.times_step.Statement.{statement}
 use Rattle.times.proofs.times_step.Tie as tie
 
 -- where the function began, and after each call
-abbrev begun : tie.After-change-of → tie.Start
+abbrev begun : tie.After-timing-of → tie.Start
 begun c = c .before .before .before .before .before .before .before .before
 
 abbrev took : tie.After-slice-known10 → tie.After-take-granted
@@ -19,8 +19,8 @@ tried c = c .before .before .before .before .before .before .before .before
 abbrev gave : tie.After-slice-known18 → tie.After-give-times
 gave c = c .before .before .before .before .before .before .before .before
 
-change-of-requires : tie.Need-change-of-requires
-change-of-requires c κs = search needs
+timing-of-requires : tie.Need-timing-of-requires
+timing-of-requires c κs = search needs
 
 enum-told : tie.Need-enum-told
 enum-told c = search needs
@@ -41,7 +41,7 @@ returns c =
     let h = e .before .before in
     let z = begun h in
     let a = z .args in
-    λ ticks. stepped (a .step) _ Makes (h .change-of .ensures) (e .enum-told .given .1) _ _ _ _ _ _ _ _ _ _ (record { formed = z .pre .1; view = q .make .ensures (a .b) (a .sizes .now) (a .rows .now) (a .last .now) })
+    λ ticks. stepped (a .step) _ Makes (h .timing-of .ensures) (e .enum-told .given .1) _ _ _ _ _ _ _ _ _ _ (record { formed = z .pre .1; view = q .make .ensures (a .b) (a .sizes .now) (a .rows .now) (a .last .now) })
 
 enum-told-2 : tie.Need-enum-told-2
 enum-told-2 c = search needs
@@ -51,7 +51,7 @@ take-granted-requires c κs =
     let e = c .before .before .before .before in
     let h = e .before .before in
     let z = begun h in
-    let p = able (z .args .step) _ Takes (h .change-of .ensures) (e .enum-told2 .given .1) _ _ _ _ _ (z .pre .6) in
+    let p = able (z .args .step) _ Takes (h .timing-of .ensures) (e .enum-told2 .given .1) _ _ _ _ _ (z .pre .6) in
     (z .pre .0, z .pre .1, z .pre .2, z .pre .4, z .pre .5, p .0, p .1)
 
 same-length-3 : tie.Need-same-length-3
@@ -74,7 +74,7 @@ returns-2 c =
     let h = e .before .before in
     let z = begun h in
     let a = z .args in
-    λ ticks. stepped (a .step) _ Takes (h .change-of .ensures) (e .enum-told2 .given .1) _ _ _ _ _ _ _ _ _ _ (q .take-granted .ensures (a .makers .now))
+    λ ticks. stepped (a .step) _ Takes (h .timing-of .ensures) (e .enum-told2 .given .1) _ _ _ _ _ _ _ _ _ _ (q .take-granted .ensures (a .makers .now))
 
 enum-told-3 : tie.Need-enum-told-3
 enum-told-3 c = search needs
@@ -84,7 +84,7 @@ try-times-requires c κs =
     let e = c .before .before .before .before in
     let h = e .before .before in
     let z = begun h in
-    let p = able (z .args .step) _ Tries (h .change-of .ensures) (e .enum-told3 .given .1) _ _ _ _ _ (z .pre .6) in
+    let p = able (z .args .step) _ Tries (h .timing-of .ensures) (e .enum-told3 .given .1) _ _ _ _ _ (z .pre .6) in
     (z .pre .0, z .pre .1, z .pre .2, z .pre .4, z .pre .5, p .0, p .1, p .2)
 
 same-length-7 : tie.Need-same-length-7
@@ -107,7 +107,7 @@ returns-3 c =
     let h = e .before .before in
     let z = begun h in
     let a = z .args in
-    λ ticks. stepped (a .step) _ Tries (h .change-of .ensures) (e .enum-told3 .given .1) _ _ _ _ _ _ _ _ _ _ (q .try-times .ensures (a .makers .now))
+    λ ticks. stepped (a .step) _ Tries (h .timing-of .ensures) (e .enum-told3 .given .1) _ _ _ _ _ _ _ _ _ _ (q .try-times .ensures (a .makers .now))
 
 enum-told-4 : tie.Need-enum-told-4
 enum-told-4 c = search needs
@@ -118,7 +118,7 @@ give-times-requires c κs =
     let e = u .before .before .before .before in
     let h = e .before .before in
     let z = begun h in
-    let p = able (z .args .step) _ Gives (h .change-of .ensures) (e .enum-told4 .given .1) _ _ _ _ _ (z .pre .6) in
+    let p = able (z .args .step) _ Gives (h .timing-of .ensures) (e .enum-told4 .given .1) _ _ _ _ _ (z .pre .6) in
     (z .pre .0, z .pre .1, z .pre .2, z .pre .3, z .pre .4, p .0, z .pre .5, p .1, p .2)
 
 same-length-11 : tie.Need-same-length-11
@@ -145,7 +145,7 @@ returns-4 c =
     let h = e .before .before in
     let z = begun h in
     let a = z .args in
-    λ ticks. stepped (a .step) _ Gives (h .change-of .ensures) (e .enum-told4 .given .1) _ _ _ _ _ _ _ _ _ _ (q .give-times .ensures)
+    λ ticks. stepped (a .step) _ Gives (h .timing-of .ensures) (e .enum-told4 .given .1) _ _ _ _ _ _ _ _ _ _ (q .give-times .ensures)
 
 enum-told-5 : tie.Need-enum-told-5
 enum-told-5 c = search needs
@@ -154,13 +154,13 @@ returns-5 : tie.Need-returns-5
 returns-5 c =
     let h = c .before .before in
     let z = begun h in
-    λ ticks. stepped (z .args .step) _ Stays (h .change-of .ensures) (c .enum-told5 .given .1) _ _ _ _ _ _ _ _ _ _ (record { formed = z .pre .1; view = refl })
+    λ ticks. stepped (z .args .step) _ Stays (h .timing-of .ensures) (c .enum-told5 .given .1) _ _ _ _ _ _ _ _ _ _ (record { formed = z .pre .1; view = refl })
 
 pub times-step-spec : {M : Type 1} → statement M
 times-step-spec =
     tie.close
     (tie.spec
-    change-of-requires
+    timing-of-requires
     enum-told
     make-requires
     same-length
