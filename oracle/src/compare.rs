@@ -1,10 +1,10 @@
 //! Both sides on the same generated scripts, whole states compared, and a difference cut down.
 
 use crate::generator::{self, Wish};
-use crate::semtrace::{run_watched, Count, Options};
+use crate::semtrace::{run_caught, Count, Options};
 use crate::step::SLOTS;
+use crate::tell::{self, Differing};
 use std::io::{self, Read, Write};
-use std::panic::{self, AssertUnwindSafe};
 use std::process::{Command, Stdio};
 use std::thread;
 
@@ -38,10 +38,8 @@ pub struct Difference {
     /// The script as it was generated, and the smallest that still differs.
     pub script: String,
     pub smallest: String,
-    /// What the two sides print for the smallest, from the first line of it that differs on.
-    pub line: usize,
-    pub rust: String,
-    pub other: String,
+    /// Where the two sides, the Rust first, differ for the smallest.
+    pub differing: Differing,
 }
 
 /// Compare `scripts` scripts, with the seeds from that of `wish` on, up to the first difference.
@@ -82,19 +80,11 @@ fn wish_of(wish: Wish, seed: u64) -> Wish {
     }
 }
 
-/// What the Rust gives. A panic shows as a line of its own, so that it is a difference.
+/// What the Rust gives.
 fn rust_side(script: &str, count: &mut Count) -> String {
-    let mut output = String::new();
-    let ran = panic::catch_unwind(AssertUnwindSafe(|| {
-        run_watched(&mut output, script.as_bytes(), OPTIONS, &mut |_| ())
-    }));
-    match ran {
-        Ok(more) => {
-            count.steps += more.steps;
-            count.left_out += more.left_out;
-        }
-        Err(_) => output.push_str("the Rust panicked\n"),
-    }
+    let (output, more) = run_caught(script.as_bytes(), OPTIONS);
+    count.steps += more.steps;
+    count.left_out += more.left_out;
     output
 }
 
@@ -152,32 +142,12 @@ fn difference(program: &str, seed: u64, script: &str) -> io::Result<Difference> 
         Ok(rust != other)
     })?;
     let (rust, other) = both(program, &smallest)?;
-    let (rust_blocks, other_blocks) = (blocks(&rust), blocks(&other));
-    let alike = rust_blocks
-        .iter()
-        .zip(&other_blocks)
-        .take_while(|(rust, other)| rust == other)
-        .count();
     Ok(Difference {
         seed,
         script: script.to_string(),
         smallest,
-        line: alike + 1,
-        rust: rust_blocks[alike..].concat(),
-        other: other_blocks[alike..].concat(),
+        differing: tell::differing(&rust, &other),
     })
-}
-
-/// The text for each line of a script: its printed line, and the indented lines behind it.
-fn blocks(printed: &str) -> Vec<String> {
-    let mut blocks: Vec<String> = Vec::new();
-    for line in printed.split_inclusive('\n') {
-        match blocks.last_mut() {
-            Some(block) if line.starts_with(' ') => block.push_str(line),
-            _ => blocks.push(line.to_string()),
-        }
-    }
-    blocks
 }
 
 /// The smallest script that still differs: no line can go, and no request, with the later slots counted

@@ -11,6 +11,7 @@ pub mod observed;
 pub mod printed;
 pub mod random;
 pub mod refusals;
+pub mod rows;
 pub mod sample;
 pub mod script;
 pub mod semtrace;
@@ -18,6 +19,7 @@ pub mod situations;
 pub mod soak;
 pub mod state;
 pub mod step;
+pub mod tell;
 
 // The stand-ins with the two unchanged files among them, as the build laid them out.
 include!(concat!(env!("OUT_DIR"), "/engine_module.rs"));

@@ -3,6 +3,7 @@
 use oracle::compare::{self, Difference};
 use oracle::generator::{self, Wish};
 use oracle::semtrace::{run_watched, Options};
+use oracle::tell::{self, Differing};
 use oracle::{bench, fault, sample, soak};
 use std::io::{self, Read, Write};
 use std::panic::{self, AssertUnwindSafe};
@@ -15,7 +16,9 @@ usage:
   oracle gen --seed N --lines L [--clocks]
   oracle soak --seed N --scripts K --lines L [--clocks]
   oracle compare PROGRAM --seed N --scripts K --lines L
+  oracle tell < ROWS
   oracle sample DIRECTORY
+  oracle record DIRECTORY
   oracle check DIRECTORY
   oracle workloads DIRECTORY
   oracle bench < RECORDS";
@@ -31,7 +34,7 @@ fn main() -> ExitCode {
     let command = words.next_if(|word| !word.starts_with("--"));
     let done = match command {
         None => unless_unobserved().and_then(|()| run_script(&Flags::read(words)?)),
-        Some("gen" | "soak" | "sample" | "check") if cfg!(feature = "unobserved") => {
+        Some("gen" | "soak" | "sample" | "record" | "check") if cfg!(feature = "unobserved") => {
             unless_unobserved().map(|()| ExitCode::SUCCESS)
         }
         Some("gen") => unless_faulty().and_then(|()| generate(&Flags::read(words)?)),
@@ -41,6 +44,8 @@ fn main() -> ExitCode {
             run_compare(program, &Flags::read(words)?)
         }),
         Some("sample") => unless_faulty().and_then(|()| write_sample(words.next().ok_or(USAGE)?)),
+        Some("record") => unless_faulty().and_then(|()| record_states(words.next().ok_or(USAGE)?)),
+        Some("tell") => tell_rows(),
         Some("workloads") => unless_faulty().and_then(|()| write_workloads(words.next().ok_or(USAGE)?)),
         Some("bench") => run_records(),
         Some("check") => words.next().ok_or(USAGE.to_string()).and_then(check_sample),
@@ -159,7 +164,9 @@ fn run_compare(program: &str, flags: &Flags) -> Result<ExitCode, String> {
     );
     println!(
         "{} of them have all {} lines, {} of them starting clocks",
-        compared.whole, flags.wish().lines, compared.with_clocks
+        compared.whole,
+        flags.wish().lines,
+        compared.with_clocks
     );
     match &compared.difference {
         None => {
@@ -178,13 +185,29 @@ fn print_difference(difference: &Difference) {
         seed,
         script,
         smallest,
-        line,
-        rust,
-        other,
+        differing,
     } = difference;
     println!("\nFIRST DIFFERENCE, with seed {seed}. The script:\n\n{script}");
-    println!("The smallest that still differs, at its line {line}:\n\n{smallest}");
-    println!("The Rust, from there on:\n\n{rust}\nThe other side:\n\n{other}");
+    println!("The smallest that still differs:\n\n{smallest}");
+    print_differing(differing, "The Rust", "The other side");
+}
+
+/// What differs, in words, and whose it is.
+fn print_differing(differing: &Differing, one_side: &str, other_side: &str) {
+    let Differing { line, one, other } = differing;
+    println!("At line {line}, of the state only what differs. {one_side}:\n\n{one}\n{other_side}:\n\n{other}");
+}
+
+fn tell_rows() -> Result<ExitCode, String> {
+    let rows = io::read_to_string(io::stdin()).map_err(|e| e.to_string())?;
+    print!("{}", tell::words(&rows));
+    Ok(ExitCode::SUCCESS)
+}
+
+fn record_states(directory: &str) -> Result<ExitCode, String> {
+    let scripts = sample::rewrite(Path::new(directory)).map_err(|e| e.to_string())?;
+    println!("wrote the states of {scripts} scripts");
+    Ok(ExitCode::SUCCESS)
 }
 
 fn write_sample(directory: &str) -> Result<ExitCode, String> {
@@ -200,13 +223,12 @@ fn check_sample(directory: &str) -> Result<ExitCode, String> {
         println!("FAULT {name}: this build carries a deliberate fault");
     }
     println!("{} of {} scripts differ", checked.different.len(), checked.scripts);
-    if !checked.different.is_empty() {
-        println!("{}", checked.different.join(" "));
-    }
-    Ok(match checked.different.len() {
-        0 => ExitCode::SUCCESS,
-        _ => ExitCode::from(DIFFERENT),
-    })
+    let Some(first) = &checked.first else {
+        return Ok(ExitCode::SUCCESS);
+    };
+    println!("{}\n\nThe first of them:", checked.different.join(" "));
+    print_differing(first, "Recorded", "This build");
+    Ok(ExitCode::from(DIFFERENT))
 }
 
 /// Seeds of the long mixed runs, and how many steps the two runs of each have.

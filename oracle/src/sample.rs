@@ -2,11 +2,12 @@
 
 use crate::generator::{self, Wish};
 use crate::known;
-use crate::semtrace::{run_watched, Options};
+use crate::semtrace::{run, run_caught, run_watched, Options};
 use crate::situations::Tally;
+use crate::tell::{self, Differing};
 use std::collections::BTreeMap;
 use std::path::{Path, PathBuf};
-use std::{fs, io, panic};
+use std::{fs, io};
 
 /// Each situation is wanted in so many scripts.
 const WANTED: usize = 5;
@@ -147,14 +148,27 @@ pub fn write(directory: &Path) -> io::Result<usize> {
     Ok(sample.len())
 }
 
+/// Write what this build prints for the scripts of a directory in the place of what was recorded for them.
+pub fn rewrite(directory: &Path) -> io::Result<usize> {
+    let paths = scripts(directory)?;
+    for path in &paths {
+        fs::write(
+            path.with_extension("state"),
+            run(&fs::read(path)?, options(has_clocks(path))).0,
+        )?;
+    }
+    Ok(paths.len())
+}
+
+fn has_clocks(path: &Path) -> bool {
+    path.extension().is_some_and(|ending| ending == CLOCKS)
+}
+
 /// The scripts of a directory, in order.
 fn scripts(directory: &Path) -> io::Result<Vec<PathBuf>> {
     let entries = fs::read_dir(directory)?.map(|entry| Ok(entry?.path()));
     let mut paths = entries.collect::<io::Result<Vec<PathBuf>>>()?;
-    paths.retain(|path| {
-        path.extension()
-            .is_some_and(|ending| ending == PLAIN || ending == CLOCKS)
-    });
+    paths.retain(|path| has_clocks(path) || path.extension().is_some_and(|ending| ending == PLAIN));
     paths.sort();
     Ok(paths)
 }
@@ -164,6 +178,8 @@ pub struct Checked {
     pub scripts: usize,
     /// The names of the scripts for which this build prints something else.
     pub different: Vec<String>,
+    /// Where the first of them differs: what was recorded, and what is printed.
+    pub first: Option<Differing>,
 }
 
 /// Run the scripts of a directory, and hold what is printed against what was recorded. A panic is a
@@ -171,14 +187,15 @@ pub struct Checked {
 pub fn check(directory: &Path) -> io::Result<Checked> {
     let mut checked = Checked::default();
     for path in scripts(directory)? {
-        let script = fs::read(&path)?;
         let recorded = fs::read_to_string(path.with_extension("state"))?;
-        let clocks = path.extension().is_some_and(|ending| ending == CLOCKS);
-        let printed = panic::catch_unwind(|| crate::semtrace::run(&script, options(clocks)).0);
+        let (printed, _) = run_caught(&fs::read(&path)?, options(has_clocks(&path)));
         checked.scripts += 1;
-        if printed.ok() != Some(recorded) {
+        if printed != recorded {
             let name = path.file_stem().unwrap_or_default();
             checked.different.push(name.to_string_lossy().into_owned());
+            checked
+                .first
+                .get_or_insert_with(|| tell::differing(&recorded, &printed));
         }
     }
     Ok(checked)

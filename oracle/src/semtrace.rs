@@ -2,9 +2,11 @@
 
 use crate::machine::{with_machine, Machine};
 use crate::printed;
+use crate::rows::rows;
 use crate::script;
 use crate::situations::Happening;
 use crate::step::{Answer, Outcome, Points};
+use std::panic::{self, AssertUnwindSafe};
 
 #[derive(Clone, Copy, Default)]
 pub struct Options {
@@ -25,6 +27,19 @@ pub struct Count {
 pub fn run(script: &[u8], options: Options) -> (String, Count) {
     let mut output = String::new();
     let count = run_watched(&mut output, script, options, &mut |_| ());
+    (output, count)
+}
+
+/// Like [`run`]; a panic of the Rust shows as a line of its own, so that it is a difference.
+pub fn run_caught(script: &[u8], options: Options) -> (String, Count) {
+    let mut output = String::new();
+    let ran = panic::catch_unwind(AssertUnwindSafe(|| {
+        run_watched(&mut output, script, options, &mut |_| ())
+    }));
+    let count = ran.unwrap_or_else(|_| {
+        output.push_str("the Rust panicked\n");
+        Count::default()
+    });
     (output, count)
 }
 
@@ -86,6 +101,6 @@ const FRESH: Outcome = Outcome {
 fn print(output: &mut String, result: &Result<Outcome, u8>, machine: &Machine<'_>, options: Options) {
     output.push_str(&printed::line(result, machine));
     if let (true, Ok(outcome)) = (options.state, result) {
-        output.push_str(&printed::whole(outcome, &machine.state()));
+        output.push_str(&rows(outcome, &machine.state()));
     }
 }

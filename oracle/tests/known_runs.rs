@@ -7,7 +7,7 @@ use common::{answers, last, lines, state};
 #[test]
 fn k1_a_failed_try_ticks() {
     assert_eq!(last("S 0 0 2/T 0 1"), "none 0 0 0 0 -");
-    assert_eq!(state("S 0 0 2/T 0 1", "task 0"), "R 0 1,0");
+    assert_eq!(state("S 0 0 2/T 0 1", "task 0"), "Runnable, woken 0, clock 1,0");
 }
 
 #[test]
@@ -60,7 +60,7 @@ fn k14_the_largest_stock_and_the_largest_entry() {
 
 #[test]
 fn k15_a_taker_joins_the_releaser() {
-    assert_eq!(state("S 0 0 2/L 0 1/T 1 1", "task 1"), "R 0 1,1");
+    assert_eq!(state("S 0 0 2/L 0 1/T 1 1", "task 1"), "Runnable, woken 0, clock 1,1");
 }
 
 #[test]
@@ -110,26 +110,34 @@ fn a_queued_request_of_a_strict_semaphore_is_pending_at_every_poll() {
 #[test]
 fn reblock_goes_by_request() {
     let run = "U 0 0 2/A 1 1/P 1 0/A 1 2/P 1 1/L 0 2/T 0 1";
-    assert_eq!(state(run, "task 1"), "B 1 0,0", "though its request of 1 fits");
+    assert_eq!(
+        state(run, "task 1"),
+        "Blocked, woken 1, clock 0,0",
+        "though its request of 1 fits"
+    );
     let run = "U 0 0 2/A 1 2/P 1 0/Z 1/L 0 1/T 0 1";
-    assert_eq!(state(run, "task 1"), "B 0 0,0", "though it slept");
+    assert_eq!(state(run, "task 1"), "Blocked, woken 0, clock 0,0", "though it slept");
 }
 
 #[test]
 fn taking_the_reservation_reblocks_and_its_grant_does_not() {
     let run = "U 1 0 2/A 1 2/P 1 0/L 0 1/U 0 1 5/P 0 1";
-    assert_eq!(state(run, "task 1"), "B 1 0,0", "though its least fits");
+    assert_eq!(
+        state(run, "task 1"),
+        "Blocked, woken 1, clock 0,0",
+        "though its least fits"
+    );
     let run = format!("{run}/L 0 2/P 0 1");
     assert_eq!(last(&run), "granted 0 0 0 1 1");
     assert_eq!(
         state(&run, "task 1"),
-        "B 1 0,0",
+        "Blocked, woken 1, clock 0,0",
         "stock 0 wakes nobody, and nothing is blocked again"
     );
     let left = "U 0 0 2/U 0 1 3/P 0 0/A 1 2/P 1 1/L 0 3/P 0 0";
     assert_eq!(
         state(left, "task 1"),
-        "R 0 0,0",
+        "Runnable, woken 0, clock 0,0",
         "2 are not left, and it is not blocked for that"
     );
 }
@@ -142,7 +150,7 @@ fn a_finished_tasks_reservation_stands_until_waking_clears_it() {
     assert_eq!(state(&run, "reserved"), "-");
     assert_eq!(
         state(&run, "task 2"),
-        "R 1 0,0,0",
+        "Runnable, woken 1, clock 0,0,0",
         "the queue is woken in the same step"
     );
     assert_eq!(last(&format!("{run}/P 0 0")), "pending 0 1 0 1 -");
@@ -152,11 +160,11 @@ fn a_finished_tasks_reservation_stands_until_waking_clears_it() {
 #[test]
 fn a_reservation_follows_the_task_that_polled_it_last() {
     let run = "U 0 0 3/U 1 1 3/P 1 0/P 2 0/Z 2/L 0 2";
-    assert_eq!(state(run, "task 1"), "R 0 0,0,0");
-    assert_eq!(state(run, "task 2"), "R 1 0,0,0");
+    assert_eq!(state(run, "task 1"), "Runnable, woken 0, clock 0,0,0");
+    assert_eq!(state(run, "task 2"), "Runnable, woken 1, clock 0,0,0");
     assert_eq!(
         state(&format!("{run}/P 0 0"), "grants"),
-        "0:2:0",
+        "2 to slot 0 (task 0 joins)",
         "and whoever polls takes"
     );
 }
@@ -164,38 +172,51 @@ fn a_reservation_follows_the_task_that_polled_it_last() {
 #[test]
 fn least_0_is_woken_at_stock_0() {
     let run = "U 0 0 3/U 1 1 3/P 1 0/U 2 1 2/P 2 1/Z 2/D 1 0";
-    assert_eq!(state(run, "task 2"), "R 1 0,0,0");
+    assert_eq!(state(run, "task 2"), "Runnable, woken 1, clock 0,0,0");
 }
 
 #[test]
 fn last_acquire_gets_the_takers_clock_from_before_the_tick() {
     assert_eq!(state("S 2 0 2/T 0 1", "last"), "0,0");
     assert_eq!(state("S 2 0 2/T 0 1/T 0 1", "last"), "1,0");
-    assert_eq!(state("S 3 0 2/T 0 1/T 0 1/T 1 1", "task 1"), "R 0 0,1");
+    assert_eq!(
+        state("S 3 0 2/T 0 1/T 0 1/T 1 1", "task 1"),
+        "Runnable, woken 0, clock 0,1"
+    );
 }
 
 #[test]
 fn a_queue_grant_uses_the_makers_clock_and_the_last_pollers_task() {
     let run = "S 0 0 3/L 1 1/A 1 2/L 1 1/T 1 2/P 2 0/L 0 2";
     assert_eq!(last(run), "done 0 0 0 0 0");
-    assert_eq!(state(run, "grants"), "0:2:2");
-    assert_eq!(state(run, "slot 0"), "2 2 B 0 0,1,0 2 0 1 0 1");
+    assert_eq!(state(run, "grants"), "2 to slot 0 (task 2 joins)");
+    assert_eq!(
+        state(run, "slot 0"),
+        "Back, asked 2, least 2, reserving 0, task 2, queued 0, holding 1, completed 0, polled 1, clock 0,1,0"
+    );
     assert_eq!(
         state(run, "last"),
         "0,2,0",
         "the try's clock; the request's own has less"
     );
-    assert_eq!(state(run, "task 2"), "R 1 1,0,0", "joins the batch, and does not tick");
-    assert_eq!(state(run, "task 1"), "R 0 0,3,0");
+    assert_eq!(
+        state(run, "task 2"),
+        "Runnable, woken 1, clock 1,0,0",
+        "joins the batch, and does not tick"
+    );
+    assert_eq!(state(run, "task 1"), "Runnable, woken 0, clock 0,3,0");
 }
 
 #[test]
 fn in_a_poll_the_actor_joins_and_the_recorded_task_stays() {
     let run = "U 0 0 3/A 1 1/P 1 0/L 0 1/P 2 0";
-    assert_eq!(state(run, "grants"), "0:1:2");
-    assert_eq!(state(run, "task 2"), "R 0 1,0,1");
-    assert_eq!(state(run, "task 1"), "R 1 0,0,0");
-    assert_eq!(state(run, "slot 0"), "1 1 B 0 0,0,0 1 0 1 1 1");
+    assert_eq!(state(run, "grants"), "1 to slot 0 (task 2 joins)");
+    assert_eq!(state(run, "task 2"), "Runnable, woken 0, clock 1,0,1");
+    assert_eq!(state(run, "task 1"), "Runnable, woken 1, clock 0,0,0");
+    assert_eq!(
+        state(run, "slot 0"),
+        "Back, asked 1, least 1, reserving 0, task 1, queued 0, holding 1, completed 1, polled 1, clock 0,0,0"
+    );
 }
 
 #[test]
@@ -205,26 +226,37 @@ fn a_closed_semaphore_still_ticks_and_takes_releases() {
         lines(run)[2..],
         ["closed 0 0 1 0 -", "done 2 2 1 0 -", "done 2 2 1 0 -"]
     );
-    assert_eq!(state(run, "task 1"), "R 0 0,2");
-    assert_eq!(state(run, "batches"), "2@0,2");
+    assert_eq!(state(run, "task 1"), "Runnable, woken 0, clock 0,2");
+    assert_eq!(state(run, "batches"), "2");
+    assert_eq!(state(run, "batch 0"), "clock 0,2");
     assert_eq!(state(run, "point"), "1");
 }
 
 #[test]
 fn late_set_up_comes_with_a_taking_or_a_release_above_0() {
-    assert_eq!(state("S 1 - 1/T 0 2", "batches"), "-");
-    assert_eq!(state("S 1 - 1/L 0 0", "batches"), "-");
-    assert_eq!(state("S 1 - 1/A 0 2/P 0 0", "batches"), "-");
-    assert_eq!(state("S 2 - 1/T 0 1", "batches"), "1@0");
-    assert_eq!(state("S 2 - 1/L 0 3", "batches"), "2@0 3@1");
-    assert_eq!(state("S 0 - 1/L 0 3", "batches"), "3@1");
-    assert_eq!(state("S 2 0 1/T 0 2", "batches"), "0");
+    assert_eq!(state("S 1 - 1/T 0 2", "batches"), "not set up");
+    assert_eq!(state("S 1 - 1/L 0 0", "batches"), "not set up");
+    assert_eq!(state("S 1 - 1/A 0 2/P 0 0", "batches"), "not set up");
+    assert_eq!(state("S 2 - 1/T 0 1", "batches"), "1");
+    assert_eq!(state("S 2 - 1/T 0 1", "batch 0"), "clock 0");
+    assert_eq!(state("S 2 - 1/L 0 3", "batches"), "2 3");
+    assert_eq!(state("S 2 - 1/L 0 3", "batch 0"), "clock 0");
+    assert_eq!(state("S 2 - 1/L 0 3", "batch 1"), "clock 1");
+    assert_eq!(state("S 0 - 1/L 0 3", "batches"), "3");
+    assert_eq!(state("S 0 - 1/L 0 3", "batch 0"), "clock 1");
+    assert_eq!(state("S 2 0 1/T 0 2", "batches"), "-");
 }
 
 #[test]
 fn waking_reaches_the_actor() {
-    assert_eq!(state("U 0 0 1/A 0 1/P 0 0/L 0 1/Z 0", "task 0"), "R 0 1");
-    assert_eq!(state("U 0 0 1/A 0 1/P 0 0/L 0 1/Z 0/Z 0", "task 0"), "S 0 1");
+    assert_eq!(
+        state("U 0 0 1/A 0 1/P 0 0/L 0 1/Z 0", "task 0"),
+        "Runnable, woken 0, clock 1"
+    );
+    assert_eq!(
+        state("U 0 0 1/A 0 1/P 0 0/L 0 1/Z 0/Z 0", "task 0"),
+        "Sleeping, woken 0, clock 1"
+    );
 }
 
 #[test]
@@ -233,9 +265,10 @@ fn a_grant_not_yet_polled_survives_a_close_and_its_drop_releases() {
     assert_eq!(last(&format!("{run}/P 1 0")), "granted 0 0 1 0 -");
     let dropped = format!("{run}/D 0 0");
     assert_eq!(last(&dropped), "done 2 2 1 0 -");
-    assert_eq!(state(&dropped, "task 0"), "R 0 2,0");
+    assert_eq!(state(&dropped, "task 0"), "Runnable, woken 0, clock 2,0");
     assert_eq!(state(&dropped, "point"), "0 1");
-    assert_eq!(state(&dropped, "batches"), "2@2,0");
+    assert_eq!(state(&dropped, "batches"), "2");
+    assert_eq!(state(&dropped, "batch 0"), "clock 2,0");
 }
 
 #[test]
@@ -276,14 +309,17 @@ fn points_of_other_steps() {
 
 #[test]
 fn a_finish_leaves_the_woken_mark() {
-    assert_eq!(state("U 0 0 2/A 1 1/P 1 0/L 0 1/F 1", "task 1"), "F 1 0,0");
+    assert_eq!(
+        state("U 0 0 2/A 1 1/P 1 0/L 0 1/F 1", "task 1"),
+        "Finished, woken 1, clock 0,0"
+    );
 }
 
 #[test]
 fn a_close_unblocks_and_wakes_all_that_wait_and_are_not_finished() {
     let run = "U 1 0 4/A 1 2/P 1 0/A 2 2/P 2 1/F 2/U 3 1 3/P 3 2/Z 3/C 0";
     assert_eq!(last(run), "done 1 1 1 0 -");
-    assert_eq!(state(run, "task 1"), "R 1 0,0,0,0");
-    assert_eq!(state(run, "task 2"), "F 0 0,0,0,0");
-    assert_eq!(state(run, "task 3"), "R 1 0,0,0,0");
+    assert_eq!(state(run, "task 1"), "Runnable, woken 1, clock 0,0,0,0");
+    assert_eq!(state(run, "task 2"), "Finished, woken 0, clock 0,0,0,0");
+    assert_eq!(state(run, "task 3"), "Runnable, woken 1, clock 0,0,0,0");
 }

@@ -139,7 +139,7 @@ fn starting_clocks_are_read_only_where_they_are_asked_for() {
         state: true,
     };
     let with_clocks = run(script, options).0;
-    assert!(with_clocks.contains("\n batches 1@5,6\n"), "{with_clocks}");
-    assert!(with_clocks.contains("\n task 1 R 0 7,9\n"), "{with_clocks}");
+    assert!(with_clocks.contains("\n 3 1 1\n 4 0 5 6\n"), "{with_clocks}");
+    assert!(with_clocks.contains("\n 9 1 7 9\n"), "{with_clocks}");
     assert_eq!(run(b"S 1 0 2 5 6 7\n", options).0, "r12\n");
 }

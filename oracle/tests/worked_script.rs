@@ -19,39 +19,68 @@ granted 0 0 0 0 -
 
 #[test]
 fn prints_the_whole_state_after_each_accepted_line() {
-    let script = "S 2 0 2\nT 0 1\nT 9 1\nL 1 1\n";
+    let script = "S 2 0 2\nA 1 2\nT 0 1\nT 9 1\nL 1 1\n";
     let expected = "\
 done 2 2 0 0 -
- point -
- grants -
- sem S 0 2
- batches 2@0,0
- last 0,0
- queue -
- reserved -
- task 0 R 0 0,0
- task 1 R 0 0,0
+ 0
+ 1
+ 2 0 0 2
+ 3 1 2
+ 4 0 0 0
+ 5 0 0
+ 6
+ 7
+ 8 0 0 0
+ 8 1 0 0
+ 9 0 0 0
+ 9 1 0 0
+s0 2 2 0 0 -
+ 0
+ 1
+ 2 0 0 2
+ 3 1 2
+ 4 0 0 0
+ 5 0 0
+ 6
+ 7
+ 8 0 0 0
+ 8 1 0 0
+ 9 0 0 0
+ 9 1 0 0
+ 10 0 1 2 2 0 0 1 0 0 0 0
+ 11 0 0 0
 granted 1 1 0 0 t
- point 1
- grants t:1:0
- sem S 0 1
- batches 1@0,0
- last 0,0
- queue -
- reserved -
- task 0 R 0 1,0
- task 1 R 0 0,0
+ 0 1
+ 1 256 1 0
+ 2 0 0 1
+ 3 1 1
+ 4 0 0 0
+ 5 0 0
+ 6
+ 7
+ 8 0 0 0
+ 8 1 0 0
+ 9 0 1 0
+ 9 1 0 0
+ 10 0 1 2 2 0 0 1 0 0 0 0
+ 11 0 0 0
 r1 1 1 0 0 -
 done 2 2 0 0 -
- point 1
- grants -
- sem S 0 2
- batches 1@0,0 1@0,1
- last 0,0
- queue -
- reserved -
- task 0 R 0 1,0
- task 1 R 0 0,1
+ 0 1
+ 1
+ 2 0 0 2
+ 3 1 1 1
+ 4 0 0 0
+ 4 1 0 1
+ 5 0 0
+ 6
+ 7
+ 8 0 0 0
+ 8 1 0 0
+ 9 0 1 0
+ 9 1 0 1
+ 10 0 1 2 2 0 0 1 0 0 0 0
+ 11 0 0 0
 ";
     let options = Options {
         state: true,
@@ -59,5 +88,5 @@ done 2 2 0 0 -
     };
     let (printed, count) = run(script.as_bytes(), options);
     assert_eq!(printed, expected);
-    assert_eq!((count.left_out, count.steps), (1, 3));
+    assert_eq!((count.left_out, count.steps), (1, 4));
 }

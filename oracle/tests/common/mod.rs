@@ -2,6 +2,7 @@
 #![allow(dead_code)]
 
 use oracle::semtrace::{run, Options};
+use oracle::tell::words;
 
 /// What is printed, with the whole states, for a script with `/` in the place of line feeds.
 pub fn whole(script: &str) -> String {
@@ -29,13 +30,13 @@ pub fn answers(script: &str) -> Vec<String> {
     lines(script).iter().map(first_word).collect()
 }
 
-/// The line of the last whole state that begins with `name`, without that name.
+/// What the last whole state says of `name`, in words.
 pub fn state(script: &str, name: &str) -> String {
-    let printed = whole(script);
-    let line = printed
-        .lines()
-        .rev()
-        .find_map(|line| line.strip_prefix(&format!(" {name} ")));
-    line.unwrap_or_else(|| panic!("no line {name} in {printed}"))
-        .to_string()
+    let told = words(&whole(script));
+    let states: Vec<&str> = told.split("\n point").collect();
+    let last = format!(" point{}", states[states.len() - 1]);
+    let of_name = |line: &str| Some(line.strip_prefix(&format!(" {name} "))?.to_string());
+    let found: Vec<String> = last.lines().filter_map(of_name).collect();
+    assert!(!found.is_empty(), "no {name} in {told}");
+    found.join(", ")
 }
