@@ -1,5 +1,4 @@
-// Whether a scheduling point comes before a step: questions that change nothing, in the place of the source's `thread::switch`. 14 comes
-// before all that is refused here.
+// Whether a scheduling point comes before a step: questions that change nothing, in the place of the source's `thread::switch`.
 ghost use mathlib.Core.Path.{_≡_};
 ghost use mathlib.Core.List.{List};
 ghost use mathlib.Core.Option.{none};
@@ -9,11 +8,12 @@ ghost use Rattle.rules.specs.declared.Slot.{Slot as SlotRule};
 ghost use Rattle.rules.specs.declared.Question.the-variants.{BeforeTryUpgrade, BeforePoll, BeforeDrop, BeforeDropAgain};
 ghost use Rattle.rules.specs.Sizes.{slotCount};
 ghost use Rattle.splitting.specs.Plain.{Plain};
-ghost use Rattle.splitting.specs.Asking.{waits as waitsOf, point, toldOf};
+ghost use Rattle.splitting.specs.Asking.{waits as waitsOf, point as pointOf, toldOf};
 ghost use Rattle.records.specs.View.{Stands};
 ghost use Rattle.words.specs.View.{requestWords, slotsOf};
 ghost use Rattle.head.specs.View.{plainOf, Shaped};
-ghost use Rattle.points.specs.Told.{toldBy, answer};
+ghost use Rattle.state.specs.View.{words};
+ghost use Rattle.points.specs.Told.{toldBy, answer, answerTo};
 use choosing::both;
 use head::Head;
 use records::Request;
@@ -22,6 +22,7 @@ use replies::Refusal;
 use rules::Question;
 use rules::Slot;
 use rules::TaskId;
+use state::BatchSemaphore;
 
 // Whether a point comes, or why the question is refused.
 pub enum Told {
@@ -32,7 +33,7 @@ pub enum Told {
 // ---- points, of the request that was read at the slot
 // A poll: when never polled, if strictly fair, holding, closed, or available at least the least.
 fn before_poll(h: Head, r: Request) -> bool
-    ensures { λ b. ⌜ ((x : SlotRule) (slots tasks : List ℕ) → Stands r (getD (slotsOf slots) (x .0) none) → b ≡ point (BeforePoll x) (plainOf h slots tasks)) ⌝ }
+    ensures { λ b. ⌜ ((x : SlotRule) (slots tasks : List ℕ) → Stands r (getD (slotsOf slots) (x .0) none) → b ≡ pointOf (BeforePoll x) (plainOf h slots tasks)) ⌝ }
 {
     if r.polled {
         return false;
@@ -63,7 +64,7 @@ fn waits(h: Head, x: Slot, r: Request) -> bool
 
 // A drop's second question: neither of these, but holding and not completed.
 fn before_drop_again(h: Head, x: Slot, r: Request) -> bool
-    ensures { λ b. ⌜ ((slots tasks : List ℕ) → Stands r (getD (slotsOf slots) (x .0) none) → b ≡ point (BeforeDropAgain x) (plainOf h slots tasks)) ⌝ }
+    ensures { λ b. ⌜ ((slots tasks : List ℕ) → Stands r (getD (slotsOf slots) (x .0) none) → b ≡ pointOf (BeforeDropAgain x) (plainOf h slots tasks)) ⌝ }
 {
     if waits(h, x, r) {
         return false;
@@ -143,4 +144,28 @@ pub fn ask(h: Head, slots: &[u32], tasks: &[u32], me: TaskId, q: Question) -> To
         Check::Accepted => ask_runnable(h, slots, q),
         Check::Refused(why) => Told::Refused(why),
     }
+}
+
+// A question, for any struct, any words and any numbers; 14 where the step itself would give it. Refused: 14, 1, 2; a poll 3 and 4, a drop 3, a
+// try-upgrade 7.
+pub fn point(
+    s: BatchSemaphore,
+    slots: &[u32],
+    tasks: &[u32],
+    sizes: &[u32],
+    rows: &[u32],
+    last: &[u32],
+    makers: &[u32],
+    clocks: &[u32],
+    grants: &[u32],
+    me: TaskId,
+    q: Question,
+) -> Told
+    ensures { λ r. ⌜ toldBy r ≡ answerTo s (words (now (slots .entry)) (now (tasks .entry)) (now (sizes .entry)) (now (rows .entry)) (now (last .entry)) (now (makers .entry)) (now (clocks .entry))) (now (grants .entry)) me q ⌝ }
+{
+    if broken::is_broken(s, slots, tasks, sizes, rows, last, makers, clocks, grants) {
+        return Told::Refused(Refusal::Broken);
+    }
+    let head = s.head;
+    ask(head, slots, tasks, me, q)
 }
