@@ -1,1 +1,2 @@
 pub mod Rested
+pub mod Allowing

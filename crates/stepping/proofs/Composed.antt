@@ -11,7 +11,7 @@ use lib.ListN.{length}
 use Rattle.rules.specs.declared.Step.{Step}
 use Rattle.rules.specs.Sizes.{maxTasks, slotCount, width}
 use Rattle.rules.specs.State.{State}
-use Rattle.rules.specs.Steps.{Outcome, effect}
+use Rattle.rules.specs.Steps.{Answer, Outcome, effect}
 use Rattle.rules.specs.Refusals.{Ground, _if_, first, refusal}
 use Rattle.rules.specs.Sound.{Sound}
 use Rattle.rules.proofs.KeepsSteps.{sound-effect}
@@ -36,8 +36,8 @@ use Rattle.head.specs.declared.Answered.{Answered}
 use Rattle.head.specs.View.{plainOf, Answers}
 use Rattle.batches.specs.declared.Batches.{Batches}
 use Rattle.batches.specs.View.{standsIn}
-use Rattle.times.specs.View.{clocksOf, keptOf, refusalKept, changeOf, Able, Shows}
-use Rattle.times.proofs.Told.{refusal-kept, able-accepted, counted}
+use Rattle.times.specs.View.{clocksOf, keptOf, refusalKept, changeOf, Able, AbleAtRest, Shows}
+use Rattle.times.proofs.Told.{refusal-kept, able-accepted, counted, ungranted, able-at-rest}
 use Rattle.times.proofs.Public.{whole-step}
 use Rattle.state.specs.declared.BatchSemaphore.{BatchSemaphore}
 use Rattle.state.specs.declared.Stepped.{Stepped}
@@ -96,6 +96,9 @@ module _ (s : BatchSemaphore) (w : Words) (gs : List ℕ) (f : Fit s w gs) where
       late-accepts : refusalKept (a .actor) (known a p) k ≡ none
       late-accepts = neither (W.refusal a p) (refusalKept (a .actor) (known a p) k) (sym refusal-both ∙ accepted) .1
 
+      actor-here : a .actor .0 < maxTasks
+      actor-here = omega (arith, actor-below a p plain-accepts, length-tasks (w .tasks) (s .head .tasks), f .shaped .head .tasks)
+
       ready : Ready a p k
       ready = kept-accepted a p k (f .sound) accepted tasks-room slots-room
 
@@ -107,10 +110,17 @@ module _ (s : BatchSemaphore) (w : Words) (gs : List ℕ) (f : Fit s w gs) where
           let n : d .count ≡ length (W.effect a p .grants) = sym (grants-number (d .count) hs) ∙ ap length (o .grants) in
           let c = counted a p in
           able-accepted (changeOf (a .act)) (a .actor) (answerOf (d .reply)) (d .count) (known a p) (s .batches) (w .sizes) (w .rows) (w .last) (w .makers) (w .clocks)
-          (omega (arith, actor-below a p plain-accepts, length-tasks (w .tasks) (s .head .tasks), f .shaped .head .tasks))
+          actor-here
           (o .few)
           late-accepts
           (rw (o .answer, n) c)
+
+      -- and of an outcome without grants
+      pub rest-here : (o : Answer) → o ≡ W.effect a p .answer → W.effect a p .grants ≡ [] → AbleAtRest (changeOf (a .act)) (a .actor) o (w .clocks)
+      unfolding known
+      rest-here o e g =
+          able-at-rest (changeOf (a .act)) (a .actor) o (known a p) (s .batches) (w .sizes) (w .rows) (w .last) (w .makers) (w .clocks) actor-here late-accepts
+          (rw e (ungranted a p g))
 
       -- the two parts' results together: the rules' outcome
       module _ (d : Answered) (b : Batches) (v : Words) (hs : List ℕ) (who : Answers d (v .slots) (v .tasks) hs (W.effect a p))

@@ -11,10 +11,11 @@ use Rattle.rules.specs.Steps.Answer.{refused}
 use Rattle.rules.specs.Refusals.{first, refusal}
 use Rattle.splitting.specs.Parts.{orElse}
 use Rattle.replies.specs.declared.Check.{Check}
+use Rattle.replies.specs.declared.Reply.{Reply}
 use Rattle.replies.specs.Answers.{given, answerOf}
 use Rattle.planning.specs.declared.Plan.{Plan}
-use Rattle.planning.specs.Plans.{actorGrounds}
-use Rattle.times.specs.View.{refusalKept}
+use Rattle.planning.specs.Plans.{actorGrounds, Planned}
+use Rattle.times.specs.View.{refusalKept, RestsInTimes}
 use Rattle.state.specs.declared.BatchSemaphore.{BatchSemaphore}
 use Rattle.state.specs.declared.Stepped.{Stepped}
 use Rattle.state.specs.View.{Words, plainIn, keptIn, viewOf, outcomeOf, Fit}
@@ -37,11 +38,22 @@ pub record StepsOn (s : BatchSemaphore) (w : Words) (gs : List ℕ) (a : Step) (
   pub fit : Fit (r .state) v hs
   pub few : r .count ≤ slotCount
 
+-- a step to be taken: it was planned, and no refusal is met by it, on a fit state
+pub record Due (s : BatchSemaphore) (w : Words) (gs : List ℕ) (a : Step) (l : Plan) : Type 0 where
+  pub fit : Fit s w gs
+  pub planned : Planned l (a .act) (plainIn s w)
+  pub unrefused : refusal a (viewOf s w) ≡ none
+
 -- of a step that was not refused
 pub record Taken (s : BatchSemaphore) (w : Words) (a : Step) (r : Stepped) (v : Words) (hs : List ℕ) : Type 0 where
   pub outcome : outcomeOf r v hs ≡ effect a (viewOf s w)
   pub fit : Fit (r .state) v hs
   pub few : r .count ≤ slotCount
+
+-- what is left to do of a step at rest, once who's part is done: the struct as it came in, no grants, and when's part
+pub record RestTaken (s : BatchSemaphore) (a : Step) (y : Reply) (r : Stepped) (last makers clocks makers₀ clocks₀ : List ℕ) : Type 0 where
+  pub stepped : r ≡ record { reply = y; count = 0; state = s }
+  pub times : RestsInTimes a (answerOf y) last makers clocks makers₀ clocks₀
 
 -- a step that a check did not accept
 pub record NotAccepted (c : Check) (s : BatchSemaphore) (r : Stepped) : Type 0 where

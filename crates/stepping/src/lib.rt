@@ -2,18 +2,18 @@
 // The struct goes by value; the words are lent, always in the same order: the requests by slot, the tasks, the sizes and the clocks of the
 // batches, the last taking's clock, the clocks of the requests' makers, the tasks' clocks, and room for the grants.
 ghost use mathlib.Core.Path.{_≡_};
-ghost use mathlib.Core.Option.{none};
 ghost use Prim.Native.Nat.{_*_, _≤_};
 ghost use lib.ListN.{length};
-ghost use Rattle.rules.specs.Sizes.{maxTasks, width};
+ghost use Rattle.rules.specs.Sizes.{maxTasks, slotCount, width};
 ghost use Rattle.words.specs.View.{taskWords};
-ghost use Rattle.rules.specs.Refusals.{refusal};
-ghost use Rattle.planning.specs.Plans.{Planned};
-ghost use Rattle.state.specs.View.{words, plainIn, viewOf, Fit};
-ghost use Rattle.stepping.specs.Contract.{NotAccepted, Checks, Taken, StepsOn};
+ghost use Rattle.replies.specs.Answers.{answerOf};
+ghost use Rattle.times.specs.View.{changeOf, AbleAtRest};
+ghost use Rattle.state.specs.View.{words, Fit};
+ghost use Rattle.stepping.specs.Contract.{NotAccepted, Checks, Due, RestTaken, Taken, StepsOn};
 use planning::Plan;
 use replies::Check;
 use replies::Reply;
+use resting::Rest;
 use rules::Step;
 use rules::TaskId;
 use state::BatchSemaphore;
@@ -55,8 +55,28 @@ fn check(s: BatchSemaphore, tasks: &[u32], clocks: &[u32], me: TaskId, plan: Pla
     times::times_refusal(batches, clocks, me, plan.back, plan.ticks)
 }
 
-// A step that no refusal is met by: what who does, and then when.
-fn accept(
+// The times of a step that leaves the head as it is, and whose effect is done.
+fn rest(
+    s: BatchSemaphore,
+    last: &[u32],
+    makers: &mut [u32],
+    clocks: &mut [u32],
+    a: Step,
+    reply: Reply,
+) -> Stepped
+    requires { ⌜ (length (now last) ≡ width) × (length (now makers) ≡ slotCount * width) × (length (now clocks) ≡ maxTasks * width) × (AbleAtRest (changeOf (a .act)) (a .actor) (answerOf reply) (now clocks)) ⌝ }
+    ensures { λ r. ⌜ RestTaken s a reply r (now (last .entry)) (now (makers .exit)) (now (clocks .exit)) (now (makers .entry)) (now (clocks .entry)) ⌝ }
+{
+    times::rest_times(last, makers, clocks, a, reply);
+    Stepped {
+        reply,
+        count: 0,
+        state: s,
+    }
+}
+
+// A step that moves permits, the queue or the reservation: what who does, and then when.
+fn carry_out(
     s: BatchSemaphore,
     slots: &mut [u32],
     tasks: &mut [u32],
@@ -69,7 +89,7 @@ fn accept(
     a: Step,
     plan: Plan,
 ) -> Stepped
-    requires { ⌜ (Fit s (words (now slots) (now tasks) (now sizes) (now rows) (now last) (now makers) (now clocks)) (now grants)) × (Planned plan (a .act) (plainIn s (words (now slots) (now tasks) (now sizes) (now rows) (now last) (now makers) (now clocks)))) × (refusal a (viewOf s (words (now slots) (now tasks) (now sizes) (now rows) (now last) (now makers) (now clocks))) ≡ none) ⌝ }
+    requires { ⌜ Due s (words (now slots) (now tasks) (now sizes) (now rows) (now last) (now makers) (now clocks)) (now grants) a plan ⌝ }
     ensures { λ r. ⌜ Taken s (words (now (slots .entry)) (now (tasks .entry)) (now (sizes .entry)) (now (rows .entry)) (now (last .entry)) (now (makers .entry)) (now (clocks .entry))) a r (words (now (slots .exit)) (now (tasks .exit)) (now (sizes .exit)) (now (rows .exit)) (now (last .exit)) (now (makers .exit)) (now (clocks .exit))) (now (grants .exit)) ⌝ }
 {
     let head = s.head;
@@ -100,6 +120,43 @@ fn accept(
         reply,
         count: done.count,
         state,
+    }
+}
+
+// A step that no refusal is met by. Most leave the head as it is, and then nothing by value is put together anew.
+fn accept(
+    s: BatchSemaphore,
+    slots: &mut [u32],
+    tasks: &mut [u32],
+    sizes: &mut [u32],
+    rows: &mut [u32],
+    last: &mut [u32],
+    makers: &mut [u32],
+    clocks: &mut [u32],
+    grants: &mut [u32],
+    a: Step,
+    plan: Plan,
+) -> Stepped
+    requires { ⌜ Due s (words (now slots) (now tasks) (now sizes) (now rows) (now last) (now makers) (now clocks)) (now grants) a plan ⌝ }
+    ensures { λ r. ⌜ Taken s (words (now (slots .entry)) (now (tasks .entry)) (now (sizes .entry)) (now (rows .entry)) (now (last .entry)) (now (makers .entry)) (now (clocks .entry))) a r (words (now (slots .exit)) (now (tasks .exit)) (now (sizes .exit)) (now (rows .exit)) (now (last .exit)) (now (makers .exit)) (now (clocks .exit))) (now (grants .exit)) ⌝ }
+{
+    let choice = plan.choice;
+    let rested = resting::effect_at_rest(slots, tasks, s.head.tasks, a.actor, choice);
+    match rested {
+        Rest::Moves => carry_out(
+            s,
+            slots,
+            tasks,
+            sizes,
+            rows,
+            last,
+            makers,
+            clocks,
+            grants,
+            a,
+            plan,
+        ),
+        Rest::Rests(reply) => rest(s, last, makers, clocks, a, reply),
     }
 }
 

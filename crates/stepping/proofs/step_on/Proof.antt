@@ -69,7 +69,11 @@ accept-requires c κs =
     let e = on c in
     let k = e .before .before in
     let z = begun (planned k) in
-    (z .pre, plan k, no-refusal (z .args .s) (lent z) (z .args .grants .now) (z .pre) (z .args .a) (k .check .result) (told k) (e .before .is-accepted .result) (e .before .is-accepted .ensures) (e .if1 .left))
+    record {
+      fit = z .pre;
+      planned = plan k;
+      unrefused = no-refusal (z .args .s) (lent z) (z .args .grants .now) (z .pre) (z .args .a) (k .check .result) (told k) (e .before .is-accepted .result) (e .before .is-accepted .ensures) (e .if1 .left);
+    }
 
 same-length-4 : tie.Need-same-length-4
 same-length-4 c = search needs
