@@ -1,5 +1,5 @@
 // Runs that no short script reaches; then each script that the arguments name, comparing what it prints with the text that stands in the
-// file behind it. With the one argument `steps`: steps for the measurement of speed.
+// file behind it. With the one argument `steps` or `calls`: steps for the measurement of speed.
 ghost use Prim.Native.Nat.{_≤_};
 ghost use Rattle.io.specs.Counts.{Counts};
 use libc::STDOUT_FILENO;
@@ -81,10 +81,17 @@ fn tell_all() {
     }
 }
 
+// Whether the first argument is `calls`.
+fn by_calls() -> bool {
+    let mut name = io::buffer();
+    let k = os::arg(1, &mut name);
+    check::same(&name[..k], b"calls")
+}
+
 // One argument alone asks for steps.
 fn main() {
     if os::arg_count() == 2 {
-        steps::run_all();
+        steps::run_all(by_calls());
     } else {
         tell_all();
     }

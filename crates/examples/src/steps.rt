@@ -1,21 +1,23 @@
 // Runs the steps that stand on standard input, in records of eight bytes, and prints a sum of the replies: our side of `bench/run`. The
-// first record is the start. Nothing is read or written between the steps of a buffer, which are 8,192.
+// first record is the start. All is read before the first step. Two ways: 14 tested once for the run, or by a public call for each step.
 ghost use Prim.Native.Nat.{_<_, _≤_};
 ghost use lib.ListN.{length};
-use fresh::Started;
+ghost use Rattle.state.specs.View.{words, Fit};
 use replies::Reply;
 use rules::Act;
 use rules::Fairness;
 use rules::Slot;
 use rules::Step;
 use rules::TaskId;
+use script::First;
+use script::Maker;
 use state::BatchSemaphore;
 
 // The bytes of a record.
 const RECORD: usize = 8;
 
-// The most buffers that are read, of 8,192 records each.
-const BUFFERS: usize = 16;
+// The most bytes that are read: 131,072 records.
+const INPUT: usize = 1048576;
 
 fn wide(x: u8) -> u32
     ensures { λ r. ⌜ r < 256 ⌝ }
@@ -53,7 +55,7 @@ fn act(kind: u8, a: u32, b: u32, slot: u8) -> Act {
 
 // The step in the record at a place.
 fn step_at(src: &[u8], at: usize) -> Step
-    requires { ⌜ at < 65536 ⌝ }
+    requires { ⌜ at < 1048576 ⌝ }
 {
     let kind = byte(src, at);
     let actor = TaskId(byte(src, at + 1));
@@ -71,41 +73,24 @@ fn fairness(kind: u8) -> Fairness {
     }
 }
 
-// A row of clock entries for each task, for the counts of tasks that are measured.
-fn square(tasks: u8) -> usize
-    ensures { λ r. ⌜ r ≤ 256 ⌝ }
-{
-    match tasks {
-        1 => 1,
-        2 => 4,
-        3 => 9,
-        4 => 16,
-        8 => 64,
-        16 => 256,
-        _ => 0,
+fn maker(kind: u8) -> Maker {
+    match kind {
+        255 => Maker::Nobody,
+        _ => Maker::Task(TaskId(kind)),
     }
 }
 
-// The entries up to n.
-fn first(entries: &[u32], from: usize, n: usize) -> &[u32]
-    requires { ⌜ (from ≤ n) × (n ≤ length (now entries)) ⌝ }
-{
-    &entries[from..n]
-}
-
-// The start in the first record; a maker of 255 is none.
-fn start(src: &[u8], zeros: &[u32]) -> Started
-    requires { ⌜ 256 ≤ length (now zeros) ⌝ }
-{
-    let fair = fairness(byte(src, 0));
-    let maker = byte(src, 1);
-    let tasks = byte(src, 2);
+// The start in the first record.
+fn first(src: &[u8]) -> First {
+    let fairness = fairness(byte(src, 0));
     let stock = number(byte(src, 4), byte(src, 5));
-    let clocks = first(zeros, 0, square(tasks));
-    if maker == 255 {
-        return fresh::const_new(fair, stock, wide(tasks), clocks);
+    let maker = maker(byte(src, 1));
+    First {
+        fairness,
+        stock,
+        maker,
+        tasks: wide(byte(src, 2)),
     }
-    fresh::new(fair, stock, wide(tasks), clocks, TaskId(maker))
 }
 
 // What a reply counts for in the sum.
@@ -125,60 +110,149 @@ fn weight_of_slot(x: Slot) -> u64 {
     10 + (x.0 as u64)
 }
 
-// The state after some steps, and the sum of their replies.
-struct Ran {
-    pub state: BatchSemaphore,
-    pub sum: u64,
+fn sum_on(sum: u64, r: Reply) -> u64 {
+    std::num::wrapping_add_u64(sum, weight(r))
 }
 
-// The steps in the records up to a place, one after the other.
-fn run(src: &[u8], end: usize, ran: Ran) -> Ran
-    requires { ⌜ end ≤ 65536 ⌝ }
+// The sum of the steps in the records behind the first, where 14 is not tested again.
+fn run_steps(
+    src: &[u8],
+    start: BatchSemaphore,
+    slots: &mut [u32; 320],
+    tasks: &mut [u32; 32],
+    sizes: &mut [u32; 64],
+    rows: &mut [u32; 1024],
+    last: &mut [u32; 16],
+    makers: &mut [u32; 512],
+    clocks: &mut [u32; 256],
+    grants: &mut [u32; 96],
+) -> u64
+    requires { ⌜ (length (now src) ≤ 1048576) × Fit start (words (now slots) (now tasks) (now sizes) (now rows) (now last) (now makers) (now clocks)) (now grants) ⌝ }
 {
-    let mut now = ran.state;
-    let mut sum = ran.sum;
-    let mut at: usize = 0;
-    while at < end {
-        let done = semaphore::step(now, step_at(src, at));
-        let reply = done.reply;
-        sum = std::num::wrapping_add_u64(sum, weight(reply));
-        let next = done.state;
-        now = next;
+    let mut s = start;
+    let mut sum: u64 = 0;
+    let mut at = RECORD;
+    while at < src.len() {
+        let a = step_at(src, at);
         at += RECORD;
+        let r = stepping::step_on(
+            s,
+            slots,
+            tasks,
+            sizes,
+            rows,
+            last,
+            makers,
+            clocks,
+            grants,
+            a,
+        );
+        let reply = r.reply;
+        sum = sum_on(sum, reply);
+        let state = r.state;
+        s = state;
     }
-    Ran { state: now, sum }
+    sum
 }
 
-// The state that the first record starts with.
-fn begun() -> Ran {
-    let mut head = [0u8; RECORD];
-    let room: &mut [u8] = &mut head;
-    io::read_full(libc::STDIN_FILENO, room);
-    let zeros = [0u32; 256];
-    let clocks: &[u32] = &zeros;
-    let started = start(room, clocks);
-    let state = started.state;
-    Ran { state, sum: 0 }
+// The same by public calls.
+fn run_calls(
+    src: &[u8],
+    start: BatchSemaphore,
+    slots: &mut [u32; 320],
+    tasks: &mut [u32; 32],
+    sizes: &mut [u32; 64],
+    rows: &mut [u32; 1024],
+    last: &mut [u32; 16],
+    makers: &mut [u32; 512],
+    clocks: &mut [u32; 256],
+    grants: &mut [u32; 96],
+) -> u64
+    requires { ⌜ length (now src) ≤ 1048576 ⌝ }
+{
+    let mut s = start;
+    let mut sum: u64 = 0;
+    let mut at = RECORD;
+    while at < src.len() {
+        let a = step_at(src, at);
+        at += RECORD;
+        let r = semaphore::step(
+            s,
+            slots,
+            tasks,
+            sizes,
+            rows,
+            last,
+            makers,
+            clocks,
+            grants,
+            a,
+        );
+        let reply = r.reply;
+        sum = sum_on(sum, reply);
+        let state = r.state;
+        s = state;
+    }
+    sum
 }
 
-// The steps of a buffer more.
-fn read_and_run(ran: Ran) -> Ran {
-    let mut buffer = io::large_buffer();
-    let room: &mut [u8] = &mut buffer;
-    let n = io::read_full(libc::STDIN_FILENO, room);
-    if n <= 65536 {
-        return run(room, n, ran);
+// The sum of the records, from the state that the first starts with.
+fn run(src: &[u8], by_calls: bool) -> u64
+    requires { ⌜ length (now src) ≤ 1048576 ⌝ }
+{
+    let mut slots = [0u32; 320];
+    let mut tasks = [0u32; 32];
+    let mut sizes = [0u32; 64];
+    let mut rows = [0u32; 1024];
+    let mut last = [0u32; 16];
+    let mut makers = [0u32; 512];
+    let mut clocks = [0u32; 256];
+    let mut grants = [0u32; 96];
+    let r = starting::start(
+        first(src),
+        &mut slots,
+        &mut tasks,
+        &mut sizes,
+        &mut rows,
+        &mut last,
+        &mut makers,
+        &mut clocks,
+    );
+    if by_calls {
+        return run_calls(
+            src,
+            r.state,
+            &mut slots,
+            &mut tasks,
+            &mut sizes,
+            &mut rows,
+            &mut last,
+            &mut makers,
+            &mut clocks,
+            &mut grants,
+        );
     }
-    ran
+    run_steps(
+        src,
+        r.state,
+        &mut slots,
+        &mut tasks,
+        &mut sizes,
+        &mut rows,
+        &mut last,
+        &mut makers,
+        &mut clocks,
+        &mut grants,
+    )
+}
+
+fn input() -> [u8; INPUT] {
+    [0u8; INPUT]
 }
 
 // Runs them all, and prints the sum.
-pub fn run_all() {
-    let mut ran = begun();
-    let mut left = BUFFERS;
-    while 0 < left {
-        ran = read_and_run(ran);
-        left -= 1;
-    }
-    io::print_decimal(libc::STDOUT_FILENO, ran.sum);
+pub fn run_all(by_calls: bool) {
+    let mut src = input();
+    let n = io::read_full(libc::STDIN_FILENO, &mut src);
+    io::print_decimal(libc::STDOUT_FILENO, run(&src[..n], by_calls));
 }

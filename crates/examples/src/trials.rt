@@ -1,21 +1,58 @@
 // Runs that no short script reaches: K14's other half, a task's record that is lent, and scripts of 65,536 and 65,537 bytes.
 use libc::STDOUT_FILENO;
+use records::Task;
 use replies::Reply;
 use rules::Fairness;
 use rules::TaskId;
-use task::Task;
 
-// The refusal of a release whose actor's own entry is at its largest; 0 if there is none.
-fn last_tick() -> u8 {
-    let clocks = [4294967295u32; 1];
-    let made = fresh::new(Fairness::StrictlyFair, 0, 1, &clocks, TaskId(0));
-    let state = made.state;
-    let stepped = semaphore::release(state, TaskId(0), 1);
-    let reply = stepped.reply;
-    let Reply::Refused(why) = reply else {
+// The number of a refusal; 0 if there is none.
+fn refusal(r: Reply) -> u8 {
+    let Reply::Refused(why) = r else {
         return 0;
     };
     replies::number(why)
+}
+
+// The refusal of a release whose actor's own entry is at its largest.
+fn last_tick() -> u8 {
+    let mut slots = [0u32; 320];
+    let mut tasks = [0u32; 32];
+    let mut sizes = [0u32; 64];
+    let mut rows = [0u32; 1024];
+    let mut last = [0u32; 16];
+    let mut makers = [0u32; 512];
+    let mut clocks = [0u32; 256];
+    let mut grants = [0u32; 96];
+    let starts = [4294967295u32; 1];
+    let made = fresh::new(
+        Fairness::StrictlyFair,
+        0,
+        1,
+        &starts,
+        TaskId(0),
+        &mut slots,
+        &mut tasks,
+        &mut sizes,
+        &mut rows,
+        &mut last,
+        &mut makers,
+        &mut clocks,
+    );
+    let stepped = semaphore::release(
+        made.state,
+        &mut slots,
+        &mut tasks,
+        &mut sizes,
+        &mut rows,
+        &mut last,
+        &mut makers,
+        &mut clocks,
+        &mut grants,
+        TaskId(0),
+        1,
+    );
+    let reply = stepped.reply;
+    refusal(reply)
 }
 
 fn say_refusal() {
@@ -36,14 +73,14 @@ fn say_task(t: Task) {
 }
 
 // A record blocked and unblocked, and one that sleeps and is woken, where it stands.
-fn say_lent() {
+fn say_altered() {
     io::write_all(STDOUT_FILENO, b"a record that is lent:");
-    let halted = lent::halted(Task::none());
+    let halted = altering::halted(Task::none());
     say_task(halted);
-    say_task(lent::freed(halted));
+    say_task(altering::freed(halted));
     let asleep = Task::none().sleep_unless_woken();
     say_task(asleep);
-    say_task(lent::woke(asleep));
+    say_task(altering::woke(asleep));
     io::write_all(STDOUT_FILENO, b"\n");
 }
 
@@ -82,7 +119,7 @@ fn say_too_long() {
 
 pub fn tell() {
     say_refusal();
-    say_lent();
+    say_altered();
     say_longest();
     say_too_long();
 }

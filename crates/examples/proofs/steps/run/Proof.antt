@@ -1,54 +1,34 @@
+-- `examples::steps::run`: refused or accepted, a start gives what every step may count on.
 use borrow.Author.Needs.{needs}
-use native.Mathlib.Omega.{arith}
-use Prim.Native.Nat.{_-_}
+use Rattle.trace.proofs.Firsts.{started-fit}
 use Rattle.examples.proofs.steps.run.Statement.{statement}
 use Rattle.examples.proofs.steps.run.Tie as tie
 
-abbrev Inv-loop : tie.InvT-loop
-Inv-loop src end now₀ sum₀ at₀ now sum at = Unit {0}
+first-requires : tie.Need-first-requires
+first-requires c κs = tt
 
-abbrev μ-loop : tie.MeasureT-loop
-μ-loop src end now₀ sum₀ at₀ now sum at = end - at
+start-requires : tie.Need-start-requires
+start-requires c κs = tt
 
-loop-holds : tie.Need-loop-holds Inv-loop μ-loop
-loop-holds c = tt
+run-calls-requires : tie.Need-run-calls-requires
+run-calls-requires c κs = search needs
 
-step-at-requires : tie.Need-step-at-requires Inv-loop μ-loop
-step-at-requires c κs = search needs
-
-step-requires : tie.Need-step-requires Inv-loop μ-loop
-step-requires c κs = tt
-
-weight-requires : tie.Need-weight-requires Inv-loop μ-loop
-weight-requires c κs = tt
-
-wrapping-add-u64-requires : tie.Need-wrapping-add-u64-requires Inv-loop μ-loop
-wrapping-add-u64-requires c κs = tt
-
-add-at : tie.Need-add-at Inv-loop μ-loop
-add-at c = search needs
-
-loop-less : tie.Need-loop-less Inv-loop μ-loop
-loop-less c = omega arith
-
-loop-again : tie.Need-loop-again Inv-loop μ-loop
-loop-again c = tt
-
-returns : tie.Need-returns Inv-loop μ-loop
+returns : tie.Need-returns
 returns c = tt
+
+run-steps-requires : tie.Need-run-steps-requires
+run-steps-requires c κs = (search needs, search (started-fit, needs))
+
+returns-2 : tie.Need-returns-2
+returns-2 c = tt
 
 pub run-spec : {M : Type 1} → statement M
 run-spec =
     tie.close
     (tie.spec
-    Inv-loop
-    μ-loop
-    loop-holds
-    step-at-requires
-    step-requires
-    weight-requires
-    wrapping-add-u64-requires
-    add-at
-    loop-less
-    loop-again
-    returns)
+    first-requires
+    start-requires
+    run-calls-requires
+    returns
+    run-steps-requires
+    returns-2)
