@@ -1,0 +1,239 @@
+// What a step came to as text, in the oracle's form (oracle/README.md): the script program's line, and behind it the whole state as rows of
+// numbers. Nothing here is part of the promises: it is one side of the comparison with the Rust. What does not fit a buffer is not written.
+ghost use mathlib.Core.Path.{_≡_};
+ghost use Prim.Native.Nat.{_-_};
+use batches::Batches;
+use head::Head;
+use printing::bit;
+use queue::Waiters;
+use replies::Reply;
+use state::BatchSemaphore;
+
+// What is left behind a place.
+fn left(len: usize, at: usize) -> usize
+    ensures { λ r. ⌜ r ≡ len - at ⌝ }
+{
+    if at < len { len - at } else { 0 }
+}
+
+// Bytes at a place of a buffer; the place after them.
+pub fn put(buf: &mut [u8], at: usize, w: &[u8]) -> usize {
+    if left(buf.len(), at) <= w.len() {
+        return at;
+    }
+    text::put(buf, at, w)
+}
+
+fn put_digits(buf: &mut [u8], at: usize, n: u32) -> usize {
+    if left(buf.len(), at) < 11 {
+        return at;
+    }
+    text::print_number(buf, at, n)
+}
+
+fn put_number(buf: &mut [u8], at: usize, n: u32) -> usize {
+    let p = put(buf, at, b" ");
+    put_digits(buf, p, n)
+}
+
+fn word(words: &[u32], at: usize) -> u32 {
+    if at < words.len() { words[at] } else { 0 }
+}
+
+// The place so far behind another; behind the last comes the first, as in a ring.
+fn behind(at: usize, by: usize, len: usize) -> usize {
+    if left(len, at) <= by { 0 } else { at + by }
+}
+
+// n words from a place on.
+fn put_words(buf: &mut [u8], at: usize, words: &[u32], from: usize, n: usize) -> usize {
+    let mut p = at;
+    let mut k = from;
+    let mut i: usize = 0;
+    while i < n {
+        p = put_number(buf, p, word(words, k));
+        k = behind(k, 1, words.len());
+        i += 1;
+    }
+    p
+}
+
+// A row: its kind and what it is of, and n words from a place on.
+fn put_row(buf: &mut [u8], at: usize, of: &[u32], words: &[u32], from: usize, n: usize) -> usize {
+    let p = put_words(buf, at, of, 0, of.len());
+    let q = put_words(buf, p, words, from, n);
+    put(buf, q, b"\n")
+}
+
+// Whether the slot of a number is in use. With no slots lent, everything stands.
+fn stands(slots: &[u32], i: u32) -> bool {
+    if slots.len() == 0 {
+        return true;
+    }
+    word(slots, i as usize * 10) != 0
+}
+
+fn put_item(
+    buf: &mut [u8],
+    at: usize,
+    kind: u32,
+    i: u32,
+    words: &[u32],
+    from: usize,
+    n: usize,
+    slots: &[u32],
+) -> usize {
+    if !stands(slots, i) {
+        return at;
+    }
+    put_row(buf, at, &[kind, i], words, from, n)
+}
+
+// So many rows of a table from a place on, n words of each; where slots are lent, of those in use.
+fn put_table(
+    buf: &mut [u8],
+    at: usize,
+    kind: u32,
+    count: u32,
+    words: &[u32],
+    from: usize,
+    wide: usize,
+    n: usize,
+    slots: &[u32],
+) -> usize {
+    let mut p = at;
+    let mut k = from;
+    let mut i: u32 = 0;
+    while i < count {
+        p = put_item(buf, p, kind, i, words, k, n, slots);
+        k = behind(k, wide, words.len());
+        i += 1;
+    }
+    p
+}
+
+// How many of n items stand in an array.
+fn standing(n: u32, most: u32) -> u32 {
+    if n < most { n } else { most }
+}
+
+fn waiter(waiters: Waiters, i: u32) -> u32 {
+    let at = i as usize % 32;
+    let x = waiters.slots[at];
+    x.0 as u32
+}
+
+fn put_waiters(buf: &mut [u8], at: usize, waiters: Waiters, n: u32) -> usize {
+    let mut p = at;
+    let mut i: u32 = 0;
+    while i < n {
+        p = put_number(buf, p, waiter(waiters, i));
+        i += 1;
+    }
+    p
+}
+
+// The queue, and the reservation.
+fn put_queue(buf: &mut [u8], at: usize, h: Head) -> usize {
+    let waiters = h.waiters;
+    let r = h.reservation;
+    let p = put_number(buf, at, 6);
+    let q = put_waiters(buf, p, waiters, standing(waiters.len, 32));
+    let e = put(buf, q, b"\n");
+    put_row(buf, e, &[7], &[r.slot.0 as u32], 0, bit(r.made) as usize)
+}
+
+fn put_sem(buf: &mut [u8], at: usize, h: Head) -> usize {
+    let unfair = bit(!h.strictly_fair());
+    put_row(buf, at, &[2, unfair, bit(h.closed), h.stock], &[], 0, 0)
+}
+
+fn batches_of(b: Batches) -> u32 {
+    let ring = b.permit_clocks;
+    if b.ready { standing(ring.count, 64) } else { 0 }
+}
+
+// The batches, and the clock of the last taking.
+fn put_permits(
+    buf: &mut [u8],
+    at: usize,
+    b: Batches,
+    sizes: &[u32],
+    rows: &[u32],
+    last: &[u32],
+    n: u32,
+) -> usize {
+    let head = b.permit_clocks.head as usize;
+    let count = batches_of(b);
+    let wide = n as usize;
+    let p = put_row(buf, at, &[3, bit(b.ready)], sizes, head, count as usize);
+    let q = put_table(buf, p, 4, count, rows, head * 16, 16, wide, &[]);
+    put_row(buf, q, &[5], last, 0, wide)
+}
+
+// The tasks, and the requests in their slots.
+fn put_records(
+    buf: &mut [u8],
+    at: usize,
+    slots: &[u32],
+    tasks: &[u32],
+    makers: &[u32],
+    clocks: &[u32],
+    n: u32,
+) -> usize {
+    let wide = n as usize;
+    let p = put_table(buf, at, 8, n, tasks, 0, 2, 2, &[]);
+    let q = put_table(buf, p, 9, n, clocks, 0, 16, wide, &[]);
+    let r = put_table(buf, q, 10, 32, slots, 0, 10, 10, slots);
+    put_table(buf, r, 11, 32, makers, 0, 16, wide, slots)
+}
+
+// How many grants stand in their words.
+fn grants_of(count: usize) -> u8 {
+    if count < 32 { count as u8 } else { 32 }
+}
+
+// The rows of a step: what its questions about points were told, and its grants.
+pub fn put_step(buf: &mut [u8], at: usize, points: &[u32], grants: &[u32], count: usize) -> usize {
+    let p = put_row(buf, at, &[0], points, 0, points.len());
+    put_row(buf, p, &[1], grants, 0, 3 * grants_of(count) as usize)
+}
+
+// The rows of a state.
+pub fn put_state(
+    buf: &mut [u8],
+    at: usize,
+    s: BatchSemaphore,
+    slots: &[u32],
+    tasks: &[u32],
+    sizes: &[u32],
+    rows: &[u32],
+    last: &[u32],
+    makers: &[u32],
+    clocks: &[u32],
+) -> usize {
+    let head = s.head;
+    let n = standing(head.tasks, 16);
+    let p = put_sem(buf, at, head);
+    let q = put_permits(buf, p, s.batches, sizes, rows, last, n);
+    let r = put_queue(buf, q, head);
+    put_records(buf, r, slots, tasks, makers, clocks, n)
+}
+
+// The script program's line.
+pub fn put_line(
+    buf: &mut [u8],
+    at: usize,
+    reply: Reply,
+    h: Head,
+    grants: &[u32; 96],
+    count: usize,
+) -> usize {
+    if left(buf.len(), at) < 180 {
+        return at;
+    }
+    if 32 < count {
+        return at;
+    }
+    printing::print_line(buf, at, reply, printing::counts_of(h), grants, count)
+}
