@@ -1,5 +1,5 @@
 -- What each effect asks, from the step's not being refused on a sound state: first of a state with clocks, then of a plain one.
-use Prim.Native.Nat.{ℕ, _-_, _≤_, _<_}
+use Prim.Native.Nat.{ℕ, _-_, _≤_}
 use native.Mathlib.Omega.{arith}
 use mathlib.Core.Path.{_≡_, refl, sym, ap, subst, _∙_}
 use mathlib.Core.Bool.{true, false, false≢true}
@@ -15,7 +15,6 @@ use Rattle.rules.specs.declared.Dropping.{Dropping}
 use Rattle.rules.specs.declared.Act.{Act}
 use Rattle.rules.specs.declared.Act.the-variants.{Acquire, AcquireBypassable, AcquireReserving, Upgrade, Poll, Try, TryUpgrade, Release, Drop, Close, Sleep, Finish}
 use Rattle.rules.specs.declared.Step.{Step}
-use Rattle.rules.specs.Sizes.{slotCount}
 use Rattle.rules.specs.State as S
 use Rattle.rules.specs.State.{State}
 use Rattle.rules.specs.Polling as O
@@ -27,13 +26,13 @@ use Rattle.rules.proofs.Slots.{used-below}
 use Rattle.rules.proofs.KeepsQueue.{queue-room}
 use Rattle.rules.proofs.KeepsSteps.{take-fits}
 use Rattle.rules.proofs.Decisions.{PollSays, poll-says}
-use Rattle.rules.proofs.Accepting.{Releasable, Pollable, HasSlot, Allowed, accepted}
+use Rattle.rules.proofs.Accepting.{Releasable, Pollable, Allowed, accepted}
 use Rattle.splitting.specs.Plain as P
 use Rattle.splitting.specs.Plain.{Plain}
 use Rattle.splitting.specs.Who as W
 use Rattle.splitting.specs.Split.{forget, lift}
 use Rattle.splitting.specs.Fitness.{SoundPlain}
-use Rattle.splitting.proofs.Changes.{asked-plain, free-plain}
+use Rattle.splitting.proofs.Changes.{asked-plain}
 use Rattle.splitting.proofs.Fitness.{forget-lift, sound-lift}
 use Rattle.splitting.proofs.Splitting.{refusal-of-lift}
 use Rattle.splitting.proofs.Deciding.{direct-plain, polling-plain, dropping-plain}
@@ -42,9 +41,6 @@ use Rattle.choosing.specs.Choice.{choiceOf}
 use Rattle.doing.specs.Effects.{MayRelease, queuesIn, MayPoll, MayDrop, Asks, Able}
 
 module _ (s : State) where
-  pub slot-allowed : HasSlot s → W.lowestFree (forget s .slots) < slotCount
-  slot-allowed l = omega (arith, l, free-plain (s .slots))
-
   pub try-allowed : (k : Priority) (n : ℕ) → W.direct k n (forget s) ≡ Take → n ≤ forget s .stock
   try-allowed k n e = take-fits k n s (sym (direct-plain k n s) ∙ e)
 
@@ -98,10 +94,10 @@ module _ (s : State) where
 -- ---- every act
 asks-act : (t : TaskId) (a : Act) (s : State) → Sound s → Allowed t a s → Asks (choiceOf a (forget s)) (forget s)
 unfolding choiceOf
-asks-act t (Acquire n) s h k = slot-allowed s k
-asks-act t (AcquireBypassable n) s h k = slot-allowed s k
-asks-act t (AcquireReserving least n) s h k = slot-allowed s (k .3)
-asks-act t (Upgrade held wanted) s h k = slot-allowed s (k .1)
+asks-act t (Acquire n) s h k = tt
+asks-act t (AcquireBypassable n) s h k = tt
+asks-act t (AcquireReserving least n) s h k = tt
+asks-act t (Upgrade held wanted) s h k = tt
 asks-act t (Poll x) s h k = poll-allowed s x h t k
 asks-act t (Try n) s h k = try-allowed s Back n
 asks-act t (TryUpgrade held wanted) s h k = try-allowed s Front (wanted - held)

@@ -1,4 +1,4 @@
--- What is said of an effect that is lent the slots alone, or the tasks alone.
+-- What is said of an effect, and what it asks.
 use Prim.Native.Nat.{ℕ, _+_, _≤_, _<_}
 use mathlib.Core.Path.{_≡_}
 use mathlib.Core.Bool.{Bool, true, false}
@@ -29,10 +29,6 @@ use Rattle.choosing.specs.declared.Choice.the-variants.{Makes, Polls, Tries, Re
 -- on the slots: whatever the tasks and the grants' words
 abbrev pub SlotsAnswer : (Plain → Outcome) → Answered → List ℕ → Head → List ℕ → Type 0
 SlotsAnswer f r after h before = (tasks grants : List ℕ) → Shaped h before tasks → Answers r after tasks grants (f (plainOf h before tasks))
-
--- on the tasks: whatever the slots and the grants' words
-abbrev pub TasksAnswer : (Plain → Outcome) → Answered → List ℕ → Head → List ℕ → Type 0
-TasksAnswer f r after h before = (slots grants : List ℕ) → Shaped h slots before → Answers r slots after grants (f (plainOf h slots before))
 
 -- no grants made: whatever stands in their words
 abbrev pub AnyGrants : Answered → List ℕ → List ℕ → Outcome → Type 0
@@ -74,9 +70,9 @@ pub record MayDrop (d : Dropping) (n : ℕ) (x : Slot) (s : Plain) : Type 0 wher
   pub count : n ≡ returned d (askedAt x s)
   pub fits : MayRelease n s
 
--- what a choice asks of the state
+-- what a choice asks of the state, where it moves something
 abbrev pub Asks : Choice → Plain → Type 0
-Asks (Makes i a) s = i < slotCount
+Asks (Makes i a) s = Unit {0}
 Asks (Polls x n q) s = MayPoll q n x s
 Asks (Tries n d) s = d ≡ Take → n ≤ s .stock
 Asks (Releases n) s = MayRelease n s

@@ -1,83 +1,38 @@
-// What a step does, once it is decided what it comes to: the effect of each decision, on a head by value and lent words.
+// What a step does that moves permits, the queue or the reservation, once it is decided what it comes to: the effect of each decision, on
+// a head by value and lent words. The steps that leave the head as it is are resting's.
 ghost use mathlib.Core.Path.{_≡_};
-ghost use mathlib.Core.Bool.{false, cond};
+ghost use mathlib.Core.Bool.{true, false, cond};
 ghost use mathlib.Core.Option.{none, some};
 ghost use Prim.Native.Nat.{_*_, _≤_, _<_};
 ghost use lib.ListN.{length};
 ghost use Rattle.rules.specs.declared.Direct.the-variants.{Take};
-ghost use Rattle.rules.specs.Sizes.{slotCount, maxTasks};
+ghost use Rattle.rules.specs.Sizes.{slotCount};
 ghost use Rattle.rules.specs.Broken.{twice};
 ghost use Rattle.rules.specs.Steps.Answer.{done, pending};
-ghost use Rattle.splitting.specs.Plain.{withReservation, alterTask, alterRequest, slept, finished, polledPending, _▷_};
+ghost use Rattle.splitting.specs.Plain.{withReservation, alterRequest, polledPending, _▷_};
 ghost use Rattle.splitting.specs.Who.{taking, queueBack, queueFront, leave, wakeUnfair, reblock, quiet as quietOf, tryBy, scanOrWake, release as releaseOf, dropWork, closing};
 ghost use Rattle.replies.specs.declared.Reply.the-variants.{Done};
 ghost use Rattle.replies.specs.Answers.{answerOf};
 ghost use Rattle.queue.specs.View.{waitersOf};
 ghost use Rattle.records.specs.View.{marking};
-ghost use Rattle.words.specs.View.{requestWords, taskWords};
+ghost use Rattle.words.specs.View.{requestWords};
 ghost use Rattle.head.specs.View.{plainOf, Shaped, Grants, Answers};
-ghost use Rattle.doing.specs.Effects.{SlotsAnswer, TasksAnswer, AnyGrants, pollTakes, GrantsPoll, Ungranted, MayRelease, MayPoll, MayDrop, Able};
-ghost use Rattle.choosing.specs.Choice.{makeAt, pollBy, dropBy, effectBy};
+ghost use Rattle.doing.specs.Effects.{SlotsAnswer, AnyGrants, pollTakes, GrantsPoll, Ungranted, MayRelease, MayPoll, MayDrop, Able};
+ghost use Rattle.choosing.specs.Choice.{pollBy, dropBy, effectBy, pollMoves, movesIn};
 use choosing::Choice;
 use head::Answered;
 use head::Granted;
 use head::Head;
 use queue::Reservation;
 use records::Marking;
-use records::Request;
 use replies::Reply;
-use rules::Ask;
-use rules::Direct;
 use rules::Dropping;
 use rules::Polling;
 use rules::Slot;
 use rules::TaskId;
 
-// ---- making a request; a task's sleep and its end
-
-// A request of the task, in the slot numbered i.
-pub fn make(h: Head, slots: &mut [u32], me: TaskId, i: usize, ask: Ask) -> Answered
-    requires { ⌜ (length (now slots) ≡ slotCount * requestWords) × (i < slotCount) ⌝ }
-    ensures { λ r. ⌜ SlotsAnswer (makeAt i me ask) r (now (slots .exit)) h (now (slots .entry)) ⌝ }
-{
-    let request = Request::new(ask, me);
-    words::put_request(slots, i, request);
-    let n = i as u8;
-    let slot = Slot(n);
-    let reply = Reply::Made(slot);
-    Answered {
-        reply,
-        count: 0,
-        head: h,
-    }
-}
-
-// The task sleeps unless it was woken, and the mark is cleared.
-pub fn sleep(h: Head, tasks: &mut [u32], me: TaskId) -> Answered
-    requires { ⌜ (h .tasks ≤ maxTasks) × (length (now tasks) ≡ maxTasks * taskWords) ⌝ }
-    ensures { λ r. ⌜ TasksAnswer (λ s. quietOf done (alterTask me slept s)) r (now (tasks .exit)) h (now (tasks .entry)) ⌝ }
-{
-    let t = me.0 as u32;
-    let task = words::task_at(tasks, h.tasks, t);
-    let asleep = task.sleep_unless_woken();
-    words::put_task(tasks, h.tasks, t, asleep);
-    let reply = Reply::Done;
-    Answered {
-        reply,
-        count: 0,
-        head: h,
-    }
-}
-
-// The task finishes.
-pub fn finish(h: Head, tasks: &mut [u32], me: TaskId) -> Answered
-    requires { ⌜ (h .tasks ≤ maxTasks) × (length (now tasks) ≡ maxTasks * taskWords) ⌝ }
-    ensures { λ r. ⌜ TasksAnswer (λ s. quietOf done (alterTask me finished s)) r (now (tasks .exit)) h (now (tasks .entry)) ⌝ }
-{
-    let t = me.0 as u32;
-    let task = words::task_at(tasks, h.tasks, t);
-    let over = task.finish();
-    words::put_task(tasks, h.tasks, t, over);
+// An arm that is never taken: what rests is not done here.
+fn unmoved(h: Head) -> Answered {
     let reply = Reply::Done;
     Answered {
         reply,
@@ -88,7 +43,7 @@ pub fn finish(h: Head, tasks: &mut [u32], me: TaskId) -> Answered
 
 // ---- polls
 
-// A poll that only marks its request.
+// What a poll ends with that takes nothing: its request's marks, and its reply.
 fn polled(h: Head, slots: &mut [u32], x: Slot, m: Marking, reply: Reply) -> Answered
     requires { ⌜ length (now slots) ≡ slotCount * requestWords ⌝ }
     ensures { λ r. ⌜ SlotsAnswer (λ s. quietOf (answerOf reply) (alterRequest x (marking m) s)) r (now (slots .exit)) h (now (slots .entry)) ⌝ }
@@ -190,8 +145,8 @@ fn reserve(h: Head, slots: &mut [u32], tasks: &mut [u32], me: TaskId, x: Slot) -
     polled(mine, slots, x, m, reply)
 }
 
-// A poll, as it was decided.
-pub fn poll_by(
+// A poll that moves something, as it was decided.
+fn poll_by(
     h: Head,
     slots: &mut [u32],
     tasks: &mut [u32],
@@ -201,13 +156,13 @@ pub fn poll_by(
     asked: u32,
     p: Polling,
 ) -> Answered
-    requires { ⌜ (Shaped h (now slots) (now tasks)) × (length (now grants) ≡ slotCount * 3) × MayPoll p asked x (plainOf h (now slots) (now tasks)) ⌝ }
+    requires { ⌜ (Shaped h (now slots) (now tasks)) × (length (now grants) ≡ slotCount * 3) × (pollMoves p ≡ true) × MayPoll p asked x (plainOf h (now slots) (now tasks)) ⌝ }
     ensures { λ r. ⌜ Answers r (now (slots .exit)) (now (tasks .exit)) (now (grants .exit)) (pollBy p me x (plainOf h (now (slots .entry)) (now (tasks .entry)))) ⌝ }
 {
     match p {
-        Polling::Holds => polled(h, slots, x, Marking::PollsGranted, Reply::Granted),
-        Polling::IsClosed => polled(h, slots, x, Marking::PollsClosed, Reply::Closed),
-        Polling::Stays => polled(h, slots, x, Marking::PollsPending(me), Reply::Pending),
+        Polling::Holds => unmoved(h),
+        Polling::IsClosed => unmoved(h),
+        Polling::Stays => unmoved(h),
         Polling::QueuesBack => wait_in_queue(h, slots, me, x, false),
         Polling::QueuesFront => wait_in_queue(h, slots, me, x, true),
         Polling::TakesReserved => take_reserved(h, slots, tasks, grants, me, x, asked),
@@ -242,37 +197,6 @@ fn take_by_try(
     }
 }
 
-// A try that finds no permits, or a closed semaphore.
-fn fail_try(h: Head, reply: Reply) -> Answered
-    ensures { λ r. ⌜ r ≡ record { reply = reply; count = 0; head = h } ⌝ }
-{
-    Answered {
-        reply,
-        count: 0,
-        head: h,
-    }
-}
-
-// A try, as the direct rule decided.
-pub fn try_by(
-    h: Head,
-    slots: &[u32],
-    tasks: &mut [u32],
-    grants: &mut [u32],
-    me: TaskId,
-    num_permits: u32,
-    d: Direct,
-) -> Answered
-    requires { ⌜ (Shaped h (now slots) (now tasks)) × (length (now grants) ≡ slotCount * 3) × (d ≡ Take → «num_permits» ≤ h .stock) ⌝ }
-    ensures { λ r. ⌜ Answers r (now (slots .entry)) (now (tasks .exit)) (now (grants .exit)) (tryBy d me «num_permits» (plainOf h (now (slots .entry)) (now (tasks .entry)))) ⌝ }
-{
-    match d {
-        Direct::Shut => fail_try(h, Reply::Closed),
-        Direct::NoPermits => fail_try(h, Reply::NoPermits),
-        Direct::Take => take_by_try(h, slots, tasks, grants, me, num_permits),
-    }
-}
-
 // ---- giving back
 
 // Strictly fair, those at the front of the queue are granted what fits; unfair, those who could go on are woken, and race.
@@ -291,7 +215,7 @@ fn scan_or_wake(h: Head, slots: &mut [u32], tasks: &mut [u32], grants: &mut [u32
 }
 
 // Permits are given back; none is nothing.
-pub fn release(
+fn release(
     h: Head,
     slots: &mut [u32],
     tasks: &mut [u32],
@@ -343,7 +267,7 @@ fn drop_work(
 }
 
 // The request goes, as was decided: it leaves the queue, ends its reservation or gives back what it holds; and its slot is free.
-pub fn drop_request(
+fn drop_request(
     h: Head,
     slots: &mut [u32],
     tasks: &mut [u32],
@@ -391,7 +315,7 @@ fn close(h: Head, slots: &mut [u32], tasks: &mut [u32]) -> Answered
 
 // ---- every step
 
-// The effect of what a step comes to.
+// The effect of what a step comes to, where that moves permits, the queue or the reservation.
 pub fn effect(
     h: Head,
     slots: &mut [u32],
@@ -400,17 +324,17 @@ pub fn effect(
     me: TaskId,
     c: Choice,
 ) -> Answered
-    requires { ⌜ (Shaped h (now slots) (now tasks)) × (length (now grants) ≡ slotCount * 3) × Able c (plainOf h (now slots) (now tasks)) ⌝ }
+    requires { ⌜ (Shaped h (now slots) (now tasks)) × (length (now grants) ≡ slotCount * 3) × (movesIn c ≡ true) × Able c (plainOf h (now slots) (now tasks)) ⌝ }
     ensures { λ r. ⌜ Answers r (now (slots .exit)) (now (tasks .exit)) (now (grants .exit)) (effectBy me c (plainOf h (now (slots .entry)) (now (tasks .entry)))) ⌝ }
 {
     match c {
-        Choice::Makes { slot, ask } => make(h, slots, me, slot, ask),
+        Choice::Makes { slot, ask } => unmoved(h),
         Choice::Polls {
             slot,
             asked,
             polling,
         } => poll_by(h, slots, tasks, grants, me, slot, asked, polling),
-        Choice::Tries { count, direct } => try_by(h, slots, tasks, grants, me, count, direct),
+        Choice::Tries { count, direct } => take_by_try(h, slots, tasks, grants, me, count),
         Choice::Releases(num_permits) => {
             done_with(release(h, slots, tasks, grants, num_permits))
         }
@@ -420,7 +344,7 @@ pub fn effect(
             dropping,
         } => done_with(drop_request(h, slots, tasks, grants, slot, back, dropping)),
         Choice::Closes => close(h, slots, tasks),
-        Choice::Sleeps => sleep(h, tasks, me),
-        Choice::Finishes => finish(h, tasks, me),
+        Choice::Sleeps => unmoved(h),
+        Choice::Finishes => unmoved(h),
     }
 }

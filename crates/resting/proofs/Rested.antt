@@ -25,9 +25,10 @@ use Rattle.records.specs.declared.Request.{Request}
 use Rattle.records.specs.declared.Task.{Task}
 use Rattle.records.specs.declared.Marking.the-variants.{PollsGranted, PollsClosed, PollsPending}
 use Rattle.records.specs.View.{seen, taskOf}
-use Rattle.words.specs.View.{slotsOf, tasksOf, SlotsShow, TasksShow}
+use Rattle.tables.specs.Table.{table}
+use Rattle.words.specs.View.{slotsOf, tasksOf, grantsOf, SlotsShow, TasksShow}
 use Rattle.head.specs.declared.Head.{Head}
-use Rattle.head.specs.View.{plainOf, Shaped}
+use Rattle.head.specs.View.{plainOf, Shaped, Answers}
 use Rattle.choosing.specs.declared.Choice.{Choice}
 use Rattle.choosing.specs.declared.Choice.the-variants.{Makes, Polls, Tries, Drops, Sleeps, Finishes}
 use Rattle.choosing.specs.Choice.{effectBy, movesIn, pollMoves, tryMoves, dropMoves}
@@ -196,3 +197,18 @@ by-moves t c k n ss ts e f = by-slots t c n Moves k ss ss ts e (moves-on t k ss 
 
 pub slot-there : (c : Choice) (i : ℕ) (a : Ask) → HasSlot c → c ≡ Makes i a → i < slotCount
 slot-there c i a h e = h i a e
+
+-- ---- what it comes to: of a step that moves, and of one that rests
+module _ (t : TaskId) (c : Choice) (n : ℕ) (r : Rest) (ss′ ts′ ss ts : List ℕ) (by : RestsBy t c n r ss′ ts′ ss ts) where
+  pub moves-so : r ≡ Moves → movesIn c ≡ true
+  moves-so e = sym (by .moves) ∙ ap moved e
+
+  pub rests-so : (y : Reply) → r ≡ Rests y → movesIn c ≡ false
+  rests-so y e = sym (by .moves) ∙ ap moved e
+
+  pub rests-answer : (y : Reply) → r ≡ Rests y → (h : Head) → h .tasks ≡ n → Shaped h ss ts → (gs : List ℕ)
+      → Answers (record { reply = y; count = 0; head = h }) ss′ ts′ gs (effectBy t c (plainOf h ss ts))
+  unfolding grantsOf table
+  rests-answer y e h q z gs =
+      let d = by .rests y e h q z in
+      record { state = d .state; answer = d .answer; grants = sym (d .grants); few = omega arith }

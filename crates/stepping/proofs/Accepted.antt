@@ -1,8 +1,7 @@
 -- A step that was planned and that no refusal is met by: what its parts ask, and what they come to together.
 use Prim.Native.Nat.{ℕ}
-use native.Mathlib.Omega.{arith}
 use mathlib.Core.Path.{_≡_, refl, sym, ap, subst, _∙_}
-use mathlib.Core.Bool.{Bool}
+use mathlib.Core.Bool.{Bool, true}
 use mathlib.Core.List.{List}
 use lib.ListN.{length}
 use Rattle.rules.specs.declared.Step.{Step}
@@ -25,14 +24,15 @@ use Rattle.choosing.proofs.Chosen.{effect-chosen, none-back}
 use Rattle.planning.specs.declared.Plan.{Plan}
 use Rattle.resting.specs.declared.Rest.{Rest}
 use Rattle.resting.specs.declared.Rest.the-variants.{Moves, Rests}
-use Rattle.resting.specs.Resting.{Rested, RestsBy, HasSlot, moved}
+use Rattle.resting.specs.Resting.{Rested, RestsBy, HasSlot}
 use Rattle.resting.proofs.Allowing.{has-slot}
+use Rattle.resting.proofs.Rested.{moves-so, rests-so, rests-answer}
 use Rattle.doing.specs.Effects.{Able}
 use Rattle.doing.proofs.Allowing.{able}
 use Rattle.doing.proofs.Altered.{no-grants}
 use Rattle.state.specs.declared.BatchSemaphore.{BatchSemaphore}
 use Rattle.state.specs.declared.Stepped.{Stepped}
-use Rattle.state.specs.View.{Words, words, plainIn, keptIn, viewOf}
+use Rattle.state.specs.View.{Words, words, plainIn, keptIn}
 use Rattle.stepping.specs.Contract.{Due, RestTaken, Taken}
 use Rattle.stepping.proofs.Composed.{sound-here, plain-accepts, able-here, rest-here, outcome-here, fit-here}
 
@@ -82,17 +82,13 @@ module _ (s : BatchSemaphore) (w : Words) (gs : List ℕ) (a : Step) (l : Plan) 
       rested = subst (Rested y (s .head) ss ts) chosen (by .rests y said (s .head) refl (due .fit .shaped .head))
 
       none-back-here : l .back ≡ 0
-      none-back-here =
-          due .planned .back
-          ∙ none-back (a .act) p (sym (ap movesIn (due .planned .choice)) ∙ sym (by .moves) ∙ ap moved said)
+      none-back-here = due .planned .back ∙ none-back (a .act) p (sym (ap movesIn (due .planned .choice)) ∙ rests-so _ _ _ r ss ts _ _ by y said)
 
       pub may-rest : AbleAtRest (changeOf (a .act)) (a .actor) (answerOf y) (w .clocks)
       may-rest = rest-here s w gs (due .fit) a (due .unrefused) (answerOf y) (rested .answer) (rested .grants)
 
       answers : Answers (record { reply = y; count = 0; head = s .head }) ss ts gs (effectBy (a .actor) (l .choice) p)
-      answers =
-          let d = by .rests y said (s .head) refl (due .fit .shaped .head) in
-          record { state = d .state; answer = d .answer; grants = no-grants gs ∙ sym (d .grants); few = omega arith }
+      answers = rests-answer _ _ _ r ss ts _ _ by y said (s .head) refl (due .fit .shaped .head) gs
 
       module _ (z : Stepped) (makers clocks : List ℕ) (t : RestTaken s a y z (w .last) makers clocks (w .makers) (w .clocks)) where
         abbrev v : Words
@@ -119,6 +115,9 @@ module _ (s : BatchSemaphore) (w : Words) (gs : List ℕ) (a : Step) (l : Plan) 
 
       as-it-was : w ≡ same
       as-it-was = let q = by .still said in λ i. words (sym (q .0) i) (sym (q .1) i) (w .sizes) (w .rows) (w .last) (w .makers) (w .clocks)
+
+      pub still-moves : movesIn (l .choice) ≡ true
+      still-moves = moves-so _ _ _ r ss ts _ _ by said
 
       pub still-due : Due s same gs a l
       still-due = subst (λ (u : Words). Due s u gs a l) as-it-was due

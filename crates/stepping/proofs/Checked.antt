@@ -1,13 +1,13 @@
 -- The first refusal of a step, by what each check said before.
 use Prim.Native.Nat.{ℕ}
-use mathlib.Core.Path.{_≡_, refl, sym, ap, subst, _∙_}
+use mathlib.Core.Path.{_≡_, refl, sym, ap, _∙_}
 use mathlib.Core.Bool.{Bool, true, false, not, false≢true}
 use mathlib.Core.List.{List}
 use mathlib.Core.Option.{Option, none, some}
 use borrow.Author.Tests.{not-true, not-false}
 use Rattle.rules.specs.declared.TaskId.{TaskId}
 use Rattle.rules.specs.State.{isSome}
-use Rattle.rules.specs.Refusals.{Ground, first}
+use Rattle.rules.specs.Refusals.{first}
 use Rattle.splitting.specs.Parts.{orElse}
 use Rattle.replies.specs.declared.Check.{Check}
 use Rattle.replies.specs.Answers.{given}
@@ -17,7 +17,7 @@ use Rattle.planning.specs.Plans.{Says, actorGrounds}
 use Rattle.times.specs.View.{refusalKept, keptOf}
 use Rattle.state.specs.declared.BatchSemaphore.{BatchSemaphore}
 use Rattle.state.specs.View.{Words, plainIn, keptIn}
-use Rattle.stepping.specs.Contract.{checkedAs, Checks}
+use Rattle.stepping.specs.Contract.{Checks}
 
 pub is-some : (o : Option ℕ) (b : Bool) → b ≡ not (isSome o) → not b ≡ true → isSome o ≡ true
 is-some o b e n = not-false (isSome o) (sym e ∙ not-true b n)

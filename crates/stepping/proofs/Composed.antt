@@ -1,8 +1,8 @@
 -- A state that is held, in its two parts: the refusals, and the outcome of an accepted step, from what each part gave.
-use Prim.Native.Nat.{ℕ, _*_, _≤_, _<_}
+use Prim.Native.Nat.{ℕ, _≤_, _<_}
 use native.Mathlib.Omega.{arith}
 use mathlib.Core.Path.{_≡_, refl, sym, ap, subst, _∙_}
-use mathlib.Core.Bool.{Bool, true, false, cond}
+use mathlib.Core.Bool.{Bool, true, false}
 use mathlib.Core.List.{List, [], _∷_}
 use mathlib.Core.Option.{Option, none, some, Option·none-ne-some}
 use borrow.Author.Tests.{leb-false}
@@ -10,17 +10,16 @@ use lib.Dec.{leb}
 use lib.ListN.{length}
 use Rattle.rules.specs.declared.Step.{Step}
 use Rattle.rules.specs.Sizes.{maxTasks, slotCount, width}
-use Rattle.rules.specs.State.{State}
 use Rattle.rules.specs.Steps.{Answer, Outcome, effect}
-use Rattle.rules.specs.Refusals.{Ground, _if_, first, refusal}
+use Rattle.rules.specs.Refusals.{_if_, first, refusal}
 use Rattle.rules.specs.Sound.{Sound}
 use Rattle.rules.proofs.KeepsSteps.{sound-effect}
 use Rattle.splitting.specs.Plain.{Plain}
 use Rattle.splitting.specs.Who as W
-use Rattle.splitting.specs.Times.{Known, known, backOf, ticksIn, timesRefusal}
+use Rattle.splitting.specs.Times.{known, backOf, timesRefusal}
 use Rattle.splitting.specs.Kept.{Kept, keptStep, timesKept, Ready}
 use Rattle.splitting.specs.Split.{whole}
-use Rattle.splitting.specs.Parts.{Parts, orElse, refusalParts}
+use Rattle.splitting.specs.Parts.{orElse, refusalParts}
 use Rattle.splitting.specs.Fitness.{SoundPlain}
 use Rattle.splitting.proofs.Splitting.{refusal-whole}
 use Rattle.splitting.proofs.KeptSplit.{kept-fits, kept-accepted}
@@ -28,15 +27,15 @@ use Rattle.splitting.proofs.Fitness.{sound-part}
 use Rattle.tables.proofs.Tables.{table-length}
 use Rattle.tables.specs.Table.{row}
 use Rattle.replies.specs.Answers.{answerOf}
-use Rattle.words.specs.View.{grantsOf, tasksOf, slotsOf}
+use Rattle.words.specs.View.{grantsOf}
 use Rattle.words.proofs.Tasks.{length-tasks}
 use Rattle.words.proofs.Slots.{length-slots}
 use Rattle.words.proofs.Grants.{grants-number}
 use Rattle.head.specs.declared.Answered.{Answered}
-use Rattle.head.specs.View.{plainOf, Answers}
+use Rattle.head.specs.View.{Answers}
 use Rattle.batches.specs.declared.Batches.{Batches}
 use Rattle.batches.specs.View.{standsIn}
-use Rattle.times.specs.View.{clocksOf, keptOf, refusalKept, changeOf, Able, AbleAtRest, Shows}
+use Rattle.times.specs.View.{clocksOf, refusalKept, changeOf, Able, AbleAtRest, Shows}
 use Rattle.times.proofs.Told.{refusal-kept, able-accepted, counted, ungranted, able-at-rest}
 use Rattle.times.proofs.Public.{whole-step}
 use Rattle.state.specs.declared.BatchSemaphore.{BatchSemaphore}

@@ -1,25 +1,24 @@
 -- Each way out of a step that counts on a fit state: refused, or taken.
-use Prim.Native.Nat.{ℕ, _≤_}
+use Prim.Native.Nat.{ℕ}
 use mathlib.Core.Path.{_≡_, refl, sym, ap, subst, _∙_}
 use mathlib.Core.Bool.{Bool, true, false, not}
-use mathlib.Core.List.{List, _∷_, [], _++_}
+use mathlib.Core.List.{List}
 use mathlib.Core.Option.{Option, none, some, Option·none-ne-some}
 use native.Mathlib.Omega.{arith}
 use Rattle.rules.specs.declared.Step.{Step}
-use Rattle.rules.specs.Sizes.{slotCount}
 use Rattle.rules.specs.State.{isSome}
 use Rattle.rules.specs.Steps.Answer.{refused}
 use Rattle.rules.specs.Refusals.{first, refusal}
 use Rattle.splitting.specs.Plain.{Plain}
 use Rattle.splitting.specs.Who as W
-use Rattle.splitting.specs.Times.{Known, known, backOf, ticksIn}
+use Rattle.splitting.specs.Times.{known}
 use Rattle.splitting.specs.Kept.{Kept}
 use Rattle.splitting.specs.Parts.{orElse}
 use Rattle.replies.specs.declared.Check.{Check}
 use Rattle.replies.specs.declared.Check.the-variants.{Accepted, Refused as CheckRefused}
 use Rattle.replies.specs.declared.Refusal.{Refusal}
 use Rattle.replies.specs.declared.Reply.the-variants.{Done, Refused}
-use Rattle.replies.specs.Answers.{given, numberOf}
+use Rattle.replies.specs.Answers.{given}
 use Rattle.planning.specs.declared.Plan.{Plan}
 use Rattle.planning.specs.Plans.{actorGrounds, Planned}
 use Rattle.planning.proofs.Composing.{first-after}
@@ -27,7 +26,7 @@ use Rattle.times.specs.View.{refusalKept}
 use Rattle.state.specs.declared.BatchSemaphore.{BatchSemaphore}
 use Rattle.state.specs.declared.Stepped.{Stepped}
 use Rattle.state.specs.View.{Words, plainIn, keptIn, viewOf, Fit}
-use Rattle.stepping.specs.Contract.{Refuses, NotAccepted, checkedAs, Checks, Taken, StepsOn}
+use Rattle.stepping.specs.Contract.{NotAccepted, Checks, Taken, StepsOn}
 use Rattle.stepping.proofs.Composed.{refusal-both}
 use Rattle.stepping.proofs.Checked.{is-some, is-none}
 

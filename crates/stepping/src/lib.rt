@@ -2,12 +2,14 @@
 // The struct goes by value; the words are lent, always in the same order: the requests by slot, the tasks, the sizes and the clocks of the
 // batches, the last taking's clock, the clocks of the requests' makers, the tasks' clocks, and room for the grants.
 ghost use mathlib.Core.Path.{_≡_};
+ghost use mathlib.Core.Bool.{true};
 ghost use Prim.Native.Nat.{_*_, _≤_};
 ghost use lib.ListN.{length};
 ghost use Rattle.rules.specs.Sizes.{maxTasks, slotCount, width};
 ghost use Rattle.words.specs.View.{taskWords};
 ghost use Rattle.replies.specs.Answers.{answerOf};
 ghost use Rattle.times.specs.View.{changeOf, AbleAtRest};
+ghost use Rattle.choosing.specs.Choice.{movesIn};
 ghost use Rattle.state.specs.View.{words, Fit};
 ghost use Rattle.stepping.specs.Contract.{NotAccepted, Checks, Due, RestTaken, Taken, StepsOn};
 use planning::Plan;
@@ -89,7 +91,7 @@ fn carry_out(
     a: Step,
     plan: Plan,
 ) -> Stepped
-    requires { ⌜ Due s (words (now slots) (now tasks) (now sizes) (now rows) (now last) (now makers) (now clocks)) (now grants) a plan ⌝ }
+    requires { ⌜ (Due s (words (now slots) (now tasks) (now sizes) (now rows) (now last) (now makers) (now clocks)) (now grants) a plan) × (movesIn (plan .choice) ≡ true) ⌝ }
     ensures { λ r. ⌜ Taken s (words (now (slots .entry)) (now (tasks .entry)) (now (sizes .entry)) (now (rows .entry)) (now (last .entry)) (now (makers .entry)) (now (clocks .entry))) a r (words (now (slots .exit)) (now (tasks .exit)) (now (sizes .exit)) (now (rows .exit)) (now (last .exit)) (now (makers .exit)) (now (clocks .exit))) (now (grants .exit)) ⌝ }
 {
     let head = s.head;

@@ -16,16 +16,22 @@ use Rattle.splitting.proofs.Fitness.{sound-plain-effect}
 use Rattle.replies.specs.declared.Refusal.{Refusal}
 use Rattle.replies.specs.declared.Check.{Check}
 use Rattle.replies.specs.declared.Check.the-variants.{Accepted, Refused as NotAccepted}
+use Rattle.replies.specs.declared.Reply.{Reply}
 use Rattle.replies.specs.declared.Reply.the-variants.{Refused}
 use Rattle.replies.specs.Answers.{numberOf, given, answerOf}
 use Rattle.head.specs.declared.Head.{Head}
 use Rattle.head.specs.declared.Answered.{Answered}
-use Rattle.head.specs.View.{plainOf, Answers}
+use Rattle.head.specs.View.{plainOf, Shaped, Answers}
 use Rattle.choosing.specs.declared.Choice.{Choice}
-use Rattle.choosing.specs.Choice.{effectBy}
+use Rattle.choosing.specs.Choice.{effectBy, movesIn}
 use Rattle.choosing.proofs.Chosen.{effect-chosen}
 use Rattle.planning.specs.declared.Plan.{Plan}
 use Rattle.planning.specs.Plans.{Says, actorGrounds, Planned}
+use Rattle.resting.specs.declared.Rest.{Rest}
+use Rattle.resting.specs.declared.Rest.the-variants.{Moves, Rests}
+use Rattle.resting.specs.Resting.{RestsBy, HasSlot}
+use Rattle.resting.proofs.Allowing.{has-slot}
+use Rattle.resting.proofs.Rested.{moves-so, rests-answer}
 use Rattle.doing.specs.Effects.{Able}
 use Rattle.doing.proofs.Allowing.{able}
 use Rattle.who.specs.Steps.{Ready, Refuses, DoesBy, Steps}
@@ -89,6 +95,9 @@ module _ (h : Head) (ss ts : List ℕ) (d : Ready h ss ts) (t : TaskId) (a : Act
   unrefused : W.refusal (record { actor = t; act = a }) (plainOf h ss ts) ≡ none
   unrefused = past-actor t a (plainOf h ss ts) f ∙ sym (k ts .check) ∙ ap given e
 
+  pub passes-slot : HasSlot (p .choice)
+  passes-slot = has-slot (record { actor = t; act = a }) (plainOf h ss ts) (p .choice) unrefused (k ts .choice)
+
   pub passes-able : Able (p .choice) (plainOf h ss ts)
   passes-able = able (record { actor = t; act = a }) (plainOf h ss ts) (p .choice) (d .sound) unrefused (k ts .choice)
 
@@ -107,3 +116,27 @@ module _ (h : Head) (ss ts : List ℕ) (d : Ready h ss ts) (t : TaskId) (a : Act
               sound = subst SoundPlain (sym (v .state .view)) (sound-plain-effect (record { actor = t; act = a }) (plainOf h ss ts) unrefused (d .sound));
             };
       }
+
+-- ---- what rests, and what moves: words that are as they were
+module _ (t : TaskId) (c : Choice) (h : Head) (ss ts : List ℕ) (s : Shaped h ss ts) (r : Rest) (ss′ ts′ : List ℕ) (by : RestsBy t c (h .tasks) r ss′ ts′ ss ts) where
+  pub rests : (y : Reply) → r ≡ Rests y → (d : Answered) (gs : List ℕ) → d ≡ record { reply = y; count = 0; head = h } → Answers d ss′ ts′ gs (effectBy t c (plainOf h ss ts))
+  rests y e d gs q =
+      subst (λ (d : Answered). Answers d ss′ ts′ gs (effectBy t c (plainOf h ss ts))) (sym q)
+      (rests-answer t c (h .tasks) r ss′ ts′ ss ts by y e h refl s gs)
+
+  module _ (e : r ≡ Moves) where
+    as-it-was : (P : List ℕ → List ℕ → Type 0) → P ss ts → P ss′ ts′
+    as-it-was P x = let q = by .still e in subst (λ (us : List ℕ). P us ts′) (sym (q .0)) (subst (P ss) (sym (q .1)) x)
+
+    pub moves : movesIn c ≡ true
+    moves = moves-so t c (h .tasks) r ss′ ts′ ss ts by e
+
+    pub moves-shaped : Shaped h ss′ ts′
+    moves-shaped = as-it-was (Shaped h) s
+
+    pub moves-able : Able c (plainOf h ss ts) → Able c (plainOf h ss′ ts′)
+    moves-able x = as-it-was (λ us vs. Able c (plainOf h us vs)) x
+
+    pub moved-on : (d : Answered) (after awake gs : List ℕ) → Answers d after awake gs (effectBy t c (plainOf h ss′ ts′)) → Answers d after awake gs (effectBy t c (plainOf h ss ts))
+    moved-on d after awake gs =
+        as-it-was (λ us vs. Answers d after awake gs (effectBy t c (plainOf h us vs)) → Answers d after awake gs (effectBy t c (plainOf h ss ts))) (λ x. x)

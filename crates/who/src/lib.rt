@@ -6,27 +6,58 @@ ghost use lib.ListN.{length};
 ghost use Rattle.rules.specs.Sizes.{slotCount};
 ghost use Rattle.rules.specs.Refusals.{first};
 ghost use Rattle.replies.specs.declared.Reply.the-variants.{Refused};
-ghost use Rattle.head.specs.View.{plainOf};
+ghost use Rattle.head.specs.View.{plainOf, Shaped, Answers};
 ghost use Rattle.planning.specs.Plans.{actorGrounds};
+ghost use Rattle.choosing.specs.Choice.{effectBy};
+ghost use Rattle.resting.specs.Resting.{HasSlot};
+ghost use Rattle.doing.specs.Effects.{Able};
 ghost use Rattle.who.specs.Steps.{Ready, Steps};
+use choosing::Choice;
 use head::Answered;
 use head::Head;
 use replies::Check;
 use replies::Refusal;
 use replies::Reply;
+use resting::Rest;
 use rules::Act;
 use rules::Step;
 use rules::TaskId;
 
-// A step that is refused: nothing is granted, and the head stays.
-fn refuse(h: Head, why: Refusal) -> Answered
-    ensures { λ r. ⌜ r ≡ record { reply = Refused why; count = 0; head = h } ⌝ }
+// A reply without grants, and the head as it is.
+fn stay(h: Head, reply: Reply) -> Answered
+    ensures { λ r. ⌜ r ≡ record { reply = reply; count = 0; head = h } ⌝ }
 {
-    let reply = Reply::Refused(why);
     Answered {
         reply,
         count: 0,
         head: h,
+    }
+}
+
+// A step that is refused.
+fn refuse(h: Head, why: Refusal) -> Answered
+    ensures { λ r. ⌜ r ≡ record { reply = Refused why; count = 0; head = h } ⌝ }
+{
+    let reply = Reply::Refused(why);
+    stay(h, reply)
+}
+
+// The effect of what a step comes to. Most leave the head as it is.
+fn effect(
+    h: Head,
+    slots: &mut [u32],
+    tasks: &mut [u32],
+    grants: &mut [u32],
+    me: TaskId,
+    c: Choice,
+) -> Answered
+    requires { ⌜ (Shaped h (now slots) (now tasks)) × (length (now grants) ≡ slotCount * 3) × (HasSlot c) × (Able c (plainOf h (now slots) (now tasks))) ⌝ }
+    ensures { λ r. ⌜ Answers r (now (slots .exit)) (now (tasks .exit)) (now (grants .exit)) (effectBy me c (plainOf h (now (slots .entry)) (now (tasks .entry)))) ⌝ }
+{
+    let rested = resting::effect_at_rest(slots, tasks, h.tasks, me, c);
+    match rested {
+        Rest::Moves => doing::effect(h, slots, tasks, grants, me, c),
+        Rest::Rests(reply) => stay(h, reply),
     }
 }
 
@@ -47,7 +78,7 @@ fn carry_out(
     let choice = plan.choice;
     match check {
         Check::Refused(why) => refuse(h, why),
-        Check::Accepted => doing::effect(h, slots, tasks, grants, me, choice),
+        Check::Accepted => effect(h, slots, tasks, grants, me, choice),
     }
 }
 

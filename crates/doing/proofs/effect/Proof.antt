@@ -1,5 +1,5 @@
 -- One answer for each choice.
-use Rattle.doing.proofs.Every.{asks-slot, asks-poll, asks-try, asks-release, asks-drop, does-make, does-poll, does-try, does-release, does-drop, does-close, does-sleep, does-finish}
+use Rattle.doing.proofs.Every.{asks-poll, poll-moves, asks-try, asks-release, asks-drop, does-poll, does-try, does-release, does-drop, does-close, never}
 use borrow.Author.Needs.{needs}
 use Rattle.doing.proofs.effect.Statement.{statement}
 use Rattle.doing.proofs.effect.Tie as tie
@@ -7,22 +7,20 @@ use Rattle.doing.proofs.effect.Tie as tie
 enum-known-c : tie.Need-enum-known-c
 enum-known-c c = search needs
 
-make-requires : tie.Need-make-requires
-make-requires c κs = search (asks-slot, needs)
+unmoved-requires : tie.Need-unmoved-requires
+unmoved-requires c κs = search needs
 
 enum-known-c-2 : tie.Need-enum-known-c-2
 enum-known-c-2 c = search needs
 
 poll-by-requires : tie.Need-poll-by-requires
-poll-by-requires c κs = search (asks-poll, needs)
+poll-by-requires c κs = search (asks-poll, poll-moves, needs)
 
 enum-known-c-3 : tie.Need-enum-known-c-3
 enum-known-c-3 c = search needs
 
-try-by-requires : tie.Need-try-by-requires
-try-by-requires c κs =
-    let a = c .before .before .before .before .before .before .before .before .before in
-    (a .pre .0, search needs, asks-try (a .args .c) _ (a .pre .2) _ _ (search needs))
+take-by-try-requires : tie.Need-take-by-try-requires
+take-by-try-requires c κs = search (asks-try, needs)
 
 enum-known-c-4 : tie.Need-enum-known-c-4
 enum-known-c-4 c = search needs
@@ -51,20 +49,20 @@ close-requires c κs = search needs
 enum-told-2 : tie.Need-enum-told-2
 enum-told-2 c = search needs
 
-sleep-requires : tie.Need-sleep-requires
-sleep-requires c κs = search needs
+unmoved-requires-2 : tie.Need-unmoved-requires-2
+unmoved-requires-2 c κs = search needs
 
 enum-told-3 : tie.Need-enum-told-3
 enum-told-3 c = search needs
 
-finish-requires : tie.Need-finish-requires
-finish-requires c κs = search needs
+unmoved-requires-3 : tie.Need-unmoved-requires-3
+unmoved-requires-3 c κs = search needs
+
+returns : tie.Need-returns
+returns c = search (never, needs)
 
 same-length : tie.Need-same-length
 same-length c = search needs
-
-returns : tie.Need-returns
-returns c = search (does-make, needs)
 
 same-length-2 : tie.Need-same-length-2
 same-length-2 c = search needs
@@ -72,11 +70,11 @@ same-length-2 c = search needs
 same-length-3 : tie.Need-same-length-3
 same-length-3 c = search needs
 
-same-length-4 : tie.Need-same-length-4
-same-length-4 c = search needs
-
 returns-2 : tie.Need-returns-2
 returns-2 c = search (does-poll, needs)
+
+same-length-4 : tie.Need-same-length-4
+same-length-4 c = search needs
 
 same-length-5 : tie.Need-same-length-5
 same-length-5 c = search needs
@@ -84,11 +82,11 @@ same-length-5 c = search needs
 same-length-6 : tie.Need-same-length-6
 same-length-6 c = search needs
 
-same-length-7 : tie.Need-same-length-7
-same-length-7 c = search needs
-
 returns-3 : tie.Need-returns-3
 returns-3 c = search (does-try, needs)
+
+same-length-7 : tie.Need-same-length-7
+same-length-7 c = search needs
 
 same-length-8 : tie.Need-same-length-8
 same-length-8 c = search needs
@@ -96,11 +94,11 @@ same-length-8 c = search needs
 same-length-9 : tie.Need-same-length-9
 same-length-9 c = search needs
 
-same-length-10 : tie.Need-same-length-10
-same-length-10 c = search needs
-
 returns-4 : tie.Need-returns-4
 returns-4 c = search (does-release, needs)
+
+same-length-10 : tie.Need-same-length-10
+same-length-10 c = search needs
 
 same-length-11 : tie.Need-same-length-11
 same-length-11 c = search needs
@@ -108,43 +106,34 @@ same-length-11 c = search needs
 same-length-12 : tie.Need-same-length-12
 same-length-12 c = search needs
 
-same-length-13 : tie.Need-same-length-13
-same-length-13 c = search needs
-
 returns-5 : tie.Need-returns-5
 returns-5 c = search (does-drop, needs)
+
+same-length-13 : tie.Need-same-length-13
+same-length-13 c = search needs
 
 same-length-14 : tie.Need-same-length-14
 same-length-14 c = search needs
 
-same-length-15 : tie.Need-same-length-15
-same-length-15 c = search needs
-
 returns-6 : tie.Need-returns-6
 returns-6 c = search (does-close, needs)
 
-same-length-16 : tie.Need-same-length-16
-same-length-16 c = search needs
-
 returns-7 : tie.Need-returns-7
-returns-7 c = search (does-sleep, needs)
-
-same-length-17 : tie.Need-same-length-17
-same-length-17 c = search needs
+returns-7 c = search (never, needs)
 
 returns-8 : tie.Need-returns-8
-returns-8 c = search (does-finish, needs)
+returns-8 c = search (never, needs)
 
 pub effect-spec : {M : Type 1} → statement M
 effect-spec =
     tie.close
     (tie.spec
     enum-known-c
-    make-requires
+    unmoved-requires
     enum-known-c-2
     poll-by-requires
     enum-known-c-3
-    try-by-requires
+    take-by-try-requires
     enum-known-c-4
     release-requires
     done-with-requires
@@ -154,31 +143,28 @@ effect-spec =
     enum-told
     close-requires
     enum-told-2
-    sleep-requires
+    unmoved-requires-2
     enum-told-3
-    finish-requires
-    same-length
+    unmoved-requires-3
     returns
+    same-length
     same-length-2
     same-length-3
-    same-length-4
     returns-2
+    same-length-4
     same-length-5
     same-length-6
-    same-length-7
     returns-3
+    same-length-7
     same-length-8
     same-length-9
-    same-length-10
     returns-4
+    same-length-10
     same-length-11
     same-length-12
-    same-length-13
     returns-5
+    same-length-13
     same-length-14
-    same-length-15
     returns-6
-    same-length-16
     returns-7
-    same-length-17
     returns-8)

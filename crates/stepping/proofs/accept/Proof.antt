@@ -1,6 +1,6 @@
 -- At rest the times alone are left to do; else the step is carried out, on words that are as they were.
 use mathlib.Core.Path.{_∙_}
-use Rattle.stepping.proofs.Accepted.{slot-there, may-rest, rest-taken, still-due, still-taken}
+use Rattle.stepping.proofs.Accepted.{slot-there, may-rest, rest-taken, still-moves, still-due, still-taken}
 use borrow.Author.Needs.{needs}
 use Rattle.stepping.proofs.accept.Statement.{statement}
 use Rattle.stepping.proofs.accept.Tie as tie
@@ -38,7 +38,9 @@ carry-out-requires : tie.Need-carry-out-requires
 carry-out-requires c κs =
     let m = moving c in
     let e = rested (m .before .before) in
-    still-due _ _ _ _ _ (begun (e .before) .pre) _ _ _ (e .effect-at-rest .ensures) (m .enum-told .given .1)
+    let due = begun (e .before) .pre in
+    let by = e .effect-at-rest .ensures in
+    (still-due _ _ _ _ _ due _ _ _ by (m .enum-told .given .1), still-moves _ _ _ _ _ due _ _ _ by (m .enum-told .given .1))
 
 enum-known-rested : tie.Need-enum-known-rested
 enum-known-rested c = search needs

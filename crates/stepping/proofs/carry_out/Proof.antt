@@ -17,13 +17,13 @@ timed c = c .before .before .before .before .before .before .before .before .bef
 
 effect-requires : tie.Need-effect-requires
 effect-requires c κs =
-    let due = begun c .pre in
-    (due .fit .shaped .head, due .fit .grants, may-do _ _ _ _ _ due)
+    let due = begun c .pre .0 in
+    (due .fit .shaped .head, due .fit .grants, begun c .pre .1, may-do _ _ _ _ _ due)
 
 times-step-requires : tie.Need-times-step-requires
 times-step-requires c κs =
     let e = did c in
-    let due = begun (e .before) .pre in
+    let due = begun (e .before) .pre .0 in
     let h = due .fit .shaped in (
       h .ring,
       h .formed,
@@ -63,7 +63,7 @@ returns c =
     let t = timed c in
     let e = did (t .before) in
     let k = t .times-step .kept .1 in
-    taken _ _ _ _ _ (begun (e .before) .pre) (e .effect .result) (t .times-step .result) _ _ (e .effect .ensures) (t .times-step .ensures) (k .0) (k .1 .0) (k .1 .1 .0) (k .1 .1 .1 .0) (k .1 .1 .1 .1 .0) (e .effect .kept .1 .1 .1 .0)
+    taken _ _ _ _ _ (begun (e .before) .pre .0) (e .effect .result) (t .times-step .result) _ _ (e .effect .ensures) (t .times-step .ensures) (k .0) (k .1 .0) (k .1 .1 .0) (k .1 .1 .1 .0) (k .1 .1 .1 .1 .0) (e .effect .kept .1 .1 .1 .0)
 
 pub carry-out-spec : {M : Type 1} → statement M
 carry-out-spec =

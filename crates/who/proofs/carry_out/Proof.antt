@@ -1,5 +1,5 @@
 -- Refused by the act, or carried out.
-use Rattle.who.proofs.Stepping.{refused-act, passes-able, carried}
+use Rattle.who.proofs.Stepping.{refused-act, passes-slot, passes-able, carried}
 use borrow.Author.Needs.{needs}
 use Rattle.who.proofs.carry_out.Statement.{statement}
 use Rattle.who.proofs.carry_out.Tie as tie
@@ -23,6 +23,7 @@ effect-requires c κs =
     let a = p .before .before .before .before .before in (
       a .pre .0 .shaped,
       search needs,
+      passes-slot (a .args .h) _ _ (a .pre .0) (a .args .me) (a .args .act) _ (a .pre .2) (p .plan-act .ensures) (m .enum-told .given .1),
       passes-able (a .args .h) _ _ (a .pre .0) (a .args .me) (a .args .act) _ (a .pre .2) (p .plan-act .ensures) (m .enum-told .given .1),
     )
 
