@@ -15,7 +15,7 @@ use rules::TaskId;
 use state::BatchSemaphore;
 use state::Stepped;
 
-// Any step, as a value.
+// Any step, as a value: each call below is the step of its own act. Refused: 14, 1, 2, and what its act meets.
 pub fn step(
     s: BatchSemaphore,
     slots: &mut [u32],
@@ -51,7 +51,7 @@ pub fn step(
     )
 }
 
-// A request. Refused: 14, 1, 2, 8.
+// Makes a request in the lowest free slot. Refused: 14, 1, 2, 8.
 pub fn acquire(
     s: BatchSemaphore,
     slots: &mut [u32],
@@ -82,7 +82,7 @@ pub fn acquire(
     )
 }
 
-// A bypassable request. Refused: 14, 1, 2, 8.
+// Makes a bypassable request, which others may pass. Refused: 14, 1, 2, 8.
 pub fn acquire_bypassable(
     s: BatchSemaphore,
     slots: &mut [u32],
@@ -113,7 +113,7 @@ pub fn acquire_bypassable(
     )
 }
 
-// A reserving request. Refused: 14, 1, 2, 6, 7, 8.
+// Makes a reserving request, which from its least on takes the reservation. Refused: 14, 1, 2, 6, 7, 8.
 pub fn acquire_reserving(
     s: BatchSemaphore,
     slots: &mut [u32],
@@ -148,7 +148,7 @@ pub fn acquire_reserving(
     )
 }
 
-// A request for what is missing between the permits held and those wanted. Refused: 14, 1, 2, 7, 8.
+// Makes a request for what is missing between the permits held and those wanted. Refused: 14, 1, 2, 7, 8.
 pub fn upgrade(
     s: BatchSemaphore,
     slots: &mut [u32],
@@ -180,7 +180,7 @@ pub fn upgrade(
     )
 }
 
-// A poll of a request. Refused: 14, 1, 2, 3, 4, 5, 11.
+// Polls a request: Granted, Pending or Closed. Refused: 14, 1, 2, 3, 4, 5, 11.
 pub fn poll(
     s: BatchSemaphore,
     slots: &mut [u32],
@@ -211,7 +211,7 @@ pub fn poll(
     )
 }
 
-// A try, which never waits. Refused: 14, 1, 2, 5, 11.
+// Takes permits now, or never. Refused: 14, 1, 2, 5, 11.
 pub fn try_acquire(
     s: BatchSemaphore,
     slots: &mut [u32],
@@ -242,7 +242,7 @@ pub fn try_acquire(
     )
 }
 
-// A try for what is missing between the permits held and those wanted. Refused: 14, 1, 2, 7, 11.
+// Takes what is missing between the permits held and those wanted, now or never. Refused: 14, 1, 2, 7, 11.
 pub fn try_upgrade(
     s: BatchSemaphore,
     slots: &mut [u32],
@@ -274,7 +274,7 @@ pub fn try_upgrade(
     )
 }
 
-// Permits given back. Refused: 14, 1, 2, 10, 9, 11.
+// Gives permits back: those who wait for them are granted or woken. Refused: 14, 1, 2, 10, 9, 11.
 pub fn release(
     s: BatchSemaphore,
     slots: &mut [u32],
@@ -305,7 +305,7 @@ pub fn release(
     )
 }
 
-// A request dropped, whatever it waits for or holds. Refused: 14, 1, 2, 3, 10, 9, 11.
+// Drops a request: it waits no more, and what it holds without having completed is given back. Refused: 14, 1, 2, 3, 10, 9, 11.
 pub fn drop(
     s: BatchSemaphore,
     slots: &mut [u32],
@@ -336,7 +336,7 @@ pub fn drop(
     )
 }
 
-// The semaphore closed. Refused: 14, 1, 2.
+// Closes the semaphore and wakes all who wait. Refused: 14, 1, 2.
 pub fn close(
     s: BatchSemaphore,
     slots: &mut [u32],
@@ -366,7 +366,7 @@ pub fn close(
     )
 }
 
-// The task sleeps, unless it was woken. Refused: 14, 1, 2.
+// Puts the task to sleep, unless it was woken. Refused: 14, 1, 2.
 pub fn sleep(
     s: BatchSemaphore,
     slots: &mut [u32],
@@ -396,7 +396,7 @@ pub fn sleep(
     )
 }
 
-// The task is finished. Refused: 14, 1, 2.
+// Finishes the task. Refused: 14, 1, 2.
 pub fn finish(
     s: BatchSemaphore,
     slots: &mut [u32],

@@ -1,0 +1,124 @@
+// The contract of each public call with the call as its body, all words by value: a place to try wrong answers as wrong code. Each edit in
+// must-fail/ answers wrongly, and the contract rules it out.
+ghost use mathlib.Core.Path.{_≡_};
+ghost use mathlib.Core.Option.{none, some};
+ghost use Rattle.rules.specs.declared.Act.the-variants.{Acquire, AcquireBypassable, AcquireReserving, Upgrade, Poll, Try, TryUpgrade, Release, Drop, Close, Sleep, Finish};
+ghost use Rattle.rules.specs.Runs.{start};
+ghost use Rattle.rules.specs.Steps.{_does_};
+ghost use Rattle.fresh.specs.Starting.{Gives};
+ghost use Rattle.points.specs.Told.{toldBy, answerTo};
+ghost use Rattle.trace.specs.Running.{Prints};
+ghost use Rattle.arrays.specs.Arrays.{wordsIn, Comes};
+use arrays::Arrays;
+use arrays::Begun;
+use arrays::Came;
+use points::Told;
+use rules::Act;
+use rules::Fairness;
+use rules::Question;
+use rules::Slot;
+use rules::Step;
+use rules::TaskId;
+use state::BatchSemaphore;
+
+pub fn step(s: BatchSemaphore, w: Arrays, a: Step) -> Came
+    ensures { λ r. ⌜ Comes s w a r ⌝ }
+{
+    arrays::step(s, w, a)
+}
+
+pub fn acquire(s: BatchSemaphore, w: Arrays, me: TaskId, num_permits: u32) -> Came
+    ensures { λ r. ⌜ Comes s w (me does Acquire «num_permits») r ⌝ }
+{
+    arrays::act(s, w, me, Act::Acquire(num_permits))
+}
+
+pub fn acquire_bypassable(s: BatchSemaphore, w: Arrays, me: TaskId, num_permits: u32) -> Came
+    ensures { λ r. ⌜ Comes s w (me does AcquireBypassable «num_permits») r ⌝ }
+{
+    arrays::act(s, w, me, Act::AcquireBypassable(num_permits))
+}
+
+pub fn acquire_reserving(s: BatchSemaphore, w: Arrays, me: TaskId, least: u32, asked: u32) -> Came
+    ensures { λ r. ⌜ Comes s w (me does AcquireReserving least asked) r ⌝ }
+{
+    arrays::act(s, w, me, Act::AcquireReserving { least, asked })
+}
+
+pub fn upgrade(s: BatchSemaphore, w: Arrays, me: TaskId, held: u32, wanted: u32) -> Came
+    ensures { λ r. ⌜ Comes s w (me does Upgrade held wanted) r ⌝ }
+{
+    arrays::act(s, w, me, Act::Upgrade { held, wanted })
+}
+
+pub fn poll(s: BatchSemaphore, w: Arrays, me: TaskId, x: Slot) -> Came
+    ensures { λ r. ⌜ Comes s w (me does Poll x) r ⌝ }
+{
+    arrays::act(s, w, me, Act::Poll(x))
+}
+
+pub fn try_acquire(s: BatchSemaphore, w: Arrays, me: TaskId, num_permits: u32) -> Came
+    ensures { λ r. ⌜ Comes s w (me does Try «num_permits») r ⌝ }
+{
+    arrays::act(s, w, me, Act::Try(num_permits))
+}
+
+pub fn try_upgrade(s: BatchSemaphore, w: Arrays, me: TaskId, held: u32, wanted: u32) -> Came
+    ensures { λ r. ⌜ Comes s w (me does TryUpgrade held wanted) r ⌝ }
+{
+    arrays::act(s, w, me, Act::TryUpgrade { held, wanted })
+}
+
+pub fn release(s: BatchSemaphore, w: Arrays, me: TaskId, num_permits: u32) -> Came
+    ensures { λ r. ⌜ Comes s w (me does Release «num_permits») r ⌝ }
+{
+    arrays::act(s, w, me, Act::Release(num_permits))
+}
+
+pub fn drop(s: BatchSemaphore, w: Arrays, me: TaskId, x: Slot) -> Came
+    ensures { λ r. ⌜ Comes s w (me does Drop x) r ⌝ }
+{
+    arrays::act(s, w, me, Act::Drop(x))
+}
+
+pub fn close(s: BatchSemaphore, w: Arrays, me: TaskId) -> Came
+    ensures { λ r. ⌜ Comes s w (me does Close) r ⌝ }
+{
+    arrays::act(s, w, me, Act::Close)
+}
+
+pub fn sleep(s: BatchSemaphore, w: Arrays, me: TaskId) -> Came
+    ensures { λ r. ⌜ Comes s w (me does Sleep) r ⌝ }
+{
+    arrays::act(s, w, me, Act::Sleep)
+}
+
+pub fn finish(s: BatchSemaphore, w: Arrays, me: TaskId) -> Came
+    ensures { λ r. ⌜ Comes s w (me does Finish) r ⌝ }
+{
+    arrays::act(s, w, me, Act::Finish)
+}
+
+pub fn point(s: BatchSemaphore, w: Arrays, me: TaskId, q: Question) -> Told
+    ensures { λ r. ⌜ toldBy r ≡ answerTo s (wordsIn w) (w .grants) me q ⌝ }
+{
+    arrays::point(s, w, me, q)
+}
+
+pub fn new(fairness: Fairness, stock: u32, count: u32, starts: &[u32], maker: TaskId) -> Begun
+    ensures { λ r. ⌜ Gives (r .started) (wordsIn (r .arrays)) (start (record { fairness = fairness; stock = stock; tasks = count; clocks = now (starts .entry); maker = some maker })) ⌝ }
+{
+    arrays::new(fairness, stock, count, starts, maker)
+}
+
+pub fn const_new(fairness: Fairness, stock: u32, count: u32, starts: &[u32]) -> Begun
+    ensures { λ r. ⌜ Gives (r .started) (wordsIn (r .arrays)) (start (record { fairness = fairness; stock = stock; tasks = count; clocks = now (starts .entry); maker = none })) ⌝ }
+{
+    arrays::const_new(fairness, stock, count, starts)
+}
+
+pub fn run(script: &[u8], out: &mut [u8]) -> usize
+    ensures { λ r. ⌜ Prints (now (script .entry)) (now (out .entry)) (now (out .exit)) r ⌝ }
+{
+    trace::run(script, out)
+}
