@@ -2,9 +2,9 @@
 use Prim.Native.Nat.{ℕ, _≤_, _<_}
 use native.Mathlib.Omega.{arith}
 use mathlib.Core.Path.{_≡_, refl, sym, ap, _∙_}
-use mathlib.Core.Bool.{Bool, true, false, cond, not, _&&_, _||_}
+use mathlib.Core.Bool.{Bool, true, false, not, _&&_, _||_}
 use mathlib.Core.List.{List, [], _∷_}
-use mathlib.Core.Option.{Option, none, some}
+use mathlib.Core.Option.{Option, none}
 use borrow.Author.Tests.{lt-ltb, le-ltb, leb-true}
 use lib.Dec.{ltb}
 use lib.ListN.{length, getD}
@@ -18,6 +18,7 @@ use Rattle.splitting.proofs.Broken.{any-same}
 use Rattle.tables.specs.Table.{row}
 use Rattle.queue.specs.View.{waitersOf, reservationOf}
 use Rattle.queue.proofs.Lists.{waiters-length}
+use Rattle.queue.proofs.Reserved.{is-made}
 use Rattle.words.specs.View.{requestWords, slotsOf, tasksOf, rowStands}
 use Rattle.words.proofs.Slots.{slot-past}
 use Rattle.words.proofs.Tasks.{length-tasks}
@@ -52,10 +53,6 @@ beyond-free w x = go (isBeyond x) refl
 some-queued : (q : List Slot) → nonEmpty q ≡ ltb 0 (length q)
 some-queued [] = sym (le-ltb 0 0 (omega arith))
 some-queued (x ∷ q) = sym (lt-ltb 0 (length (x ∷ q)) (omega arith))
-
-is-made : (b : Bool) (x : Slot) → isSome (cond b (some x) none) ≡ b
-is-made true x = refl
-is-made false x = refl
 
 -- stray slots and tasks, the queue, misfits, the reservation and closing, each in its turn
 in-turn : (s t q m r c : Bool) → ((((false || false) || s) || t) || (((((false || false) || q) || m) || r) || c)) ≡ t || (((s || m) || q) || (r || c))
@@ -107,7 +104,7 @@ module _ (h : Head) (ss ts : List ℕ) where
     decided =
         (λ i.
         (((le-ltb maxTasks n t i || le-ltb slotCount (h .waiters .len) l i) || straySlots ss) || strayTasks n ts)
-        || (((((tasks i || queue i) || named i) || anyOf (misfit (count i)) everySlot) || anyOf (misreserved (count i) (slotsOf ss)) (reservedSlots (reservationOf (h .reservation)))) || (h .closed && (some-waits i || is-made (h .reservation .made) (h .reservation .slot) i))))
+        || (((((tasks i || queue i) || named i) || anyOf (misfit (count i)) everySlot) || anyOf (misreserved (count i) (slotsOf ss)) (reservedSlots (reservationOf (h .reservation)))) || (h .closed && (some-waits i || is-made (h .reservation) i))))
         ∙ in-turn (straySlots ss) (strayTasks n ts) (anyOf (isFreeIn ss) q || twice q) (anyOf (misfit n) everySlot) reserving closing
         ∙ ap (λ (b : Bool). strayTasks n ts || ((b || (anyOf (isFreeIn ss) q || twice q)) || (reserving || closing))) (sym (any-either stray (misfit n) everySlot))
       where

@@ -1,9 +1,9 @@
 -- What a poll and a drop come to, test by test.
 use Prim.Native.Nat.{ℕ, _≤_, _<_}
-use mathlib.Core.Path.{_≡_, refl, _∙_}
-use mathlib.Core.Bool.{Bool, true, false, cond, not, _&&_}
+use mathlib.Core.Path.{_≡_, _∙_}
+use mathlib.Core.Bool.{Bool, true, false, not, _&&_}
 use mathlib.Core.List.{List}
-use mathlib.Core.Option.{none, some}
+use mathlib.Core.Option.{none}
 use borrow.Author.Tests.{lt-ltb, le-ltb, le-leb, lt-leb}
 use lib.ListN.{getD}
 use Rattle.rules.specs.declared.Slot.{Slot}
@@ -12,24 +12,16 @@ use Rattle.rules.specs.declared.Direct.{Direct}
 use Rattle.rules.specs.declared.Polling.{Polling}
 use Rattle.rules.specs.declared.Polling.the-variants.{Holds, IsClosed, Stays, TakesReserved, Takes, Reserves}
 use Rattle.rules.specs.declared.Dropping.the-variants.{Leaving, Unreserving, Returning, Nothing}
-use Rattle.rules.specs.State.{isSome, isThe, isStrict}
+use Rattle.rules.specs.State.{isThe, isStrict}
 use Rattle.rules.specs.Polling.{queues}
 use Rattle.splitting.specs.Who.{direct, pollReserving, byDirect, pollPlain, polling, dropping}
-use Rattle.queue.specs.declared.Reservation.{Reservation}
 use Rattle.queue.specs.View.{reservationOf}
+use Rattle.queue.proofs.Reserved.{is-made}
 use Rattle.records.specs.declared.Request.{Request}
 use Rattle.records.specs.View.{requestOf, Stands}
 use Rattle.words.specs.View.{slotsOf}
 use Rattle.head.specs.declared.Head.{Head}
 use Rattle.head.specs.View.{plainOf}
-
--- ---- the reservation is there once it was made
-pub is-made : (v : Reservation) → isSome (reservationOf v) ≡ v .made
-is-made v = go (v .made)
-  where
-    go : (b : Bool) → isSome (cond b (some (v .slot)) none) ≡ b
-    go true = refl
-    go false = refl
 
 -- ---- a reserving request
 module _ (h : Head) (x : Slot) (r : Request) (ss ts : List ℕ) (v : Bool) (e : v ≡ isThe x (reservationOf (h .reservation))) where

@@ -26,7 +26,7 @@ use Rattle.words.specs.View.{slotsOf}
 use Rattle.head.specs.declared.Head.{Head}
 use Rattle.head.specs.View.{plainOf}
 use Rattle.choosing.specs.Choice.{everyBypassable, passes}
-use Rattle.choosing.proofs.Deciding.{is-made}
+use Rattle.queue.proofs.Reserved.{is-made}
 
 -- ---- a turn
 module _ (w : Waiters) (rs : List (Option RequestRule)) (i : ℕ) (sized : length (w .slots) ≡ 32) (fits : w .len ≤ 32) where

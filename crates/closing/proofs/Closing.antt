@@ -14,9 +14,9 @@ use Rattle.queue.specs.View.{waitersOf, reservationOf}
 use Rattle.words.specs.View.{slotsOf, tasksOf, TasksShow}
 use Rattle.head.specs.declared.Head.{Head}
 use Rattle.head.specs.View.{plainOf, Shaped, Shows}
+use Rattle.head.proofs.Shown.{shown, reservedAs, unreserved-shown}
 use Rattle.rousing.specs.declared.Change.the-variants.{Wake}
 use Rattle.rousing.specs.Parts.{requestIn, ownerChanged}
-use Rattle.rousing.proofs.Whole.{shown, reservedAs, unreserved-shown}
 use Rattle.closing.proofs.Emptying.{wakes-one}
 
 -- emptying the queue keeps the reservation
@@ -46,7 +46,7 @@ module _ (h : Head) (ss ts : List ℕ) (s : Shaped h ss ts) where
   dropped m after l k v n =
       let x = h .reservation .slot in
       let e : reservationOf (h .reservation) ≡ some x = rw (not-false (h .reservation .made) m) in
-      shown (reservedAs v h) ss after _ _ (unreserved-shown h ss ts s after _ l k v n)
+      shown (reservedAs v h) ss after _ _ (unreserved-shown h ss ts s after _ k l v n)
       (sym (wakes-one x (withReservation none p)) ∙ ap (λ (o : Option Slot). dropReservation o p) (sym e))
 
   -- Nothing, if it was closed before.

@@ -19,6 +19,7 @@ use Rattle.queue.proofs.Lists.{waiters-length}
 use Rattle.words.specs.View.{slotsOf, altered, SlotsShow, tasksOf, TasksShow}
 use Rattle.head.specs.declared.Head.{Head}
 use Rattle.head.specs.View.{plainOf, Shaped, Shows}
+use Rattle.head.proofs.Shown.{headWith, head-shaped, both-shaped}
 use Rattle.rousing.specs.declared.Change.the-variants.{Wake}
 use Rattle.rousing.specs.Parts.{requestIn, ownerChanged}
 use Rattle.rousing.proofs.Rules.{one-changed}
@@ -82,15 +83,7 @@ module _ (h : Head) (ss₀ ts₀ : List ℕ) where
       pub emptying-on : Emptying h ss₀ ts₀ ss′ ts′ (i + 1)
       emptying-on =
           record {
-            shaped =
-                record {
-                  tasks = e .shaped .tasks;
-                  waiters = e .shaped .waiters;
-                  slot-words = ks ∙ e .shaped .slot-words;
-                  task-words = kt ∙ e .shaped .task-words;
-                  slots-stand = ms .stand (e .shaped .slots-stand);
-                  tasks-stand = mt .stand (e .shaped .tasks-stand);
-                };
+            shaped = both-shaped h ss ts ss′ ts′ (e .shaped) _ _ ms ks mt kt;
             within = omega arith;
             places = e .places;
             long = e .long;
@@ -98,19 +91,11 @@ module _ (h : Head) (ss₀ ts₀ : List ℕ) where
           }
 
     pub emptied : h .waiters .len ≤ i → (w : Waiters) → Holds w []
-        → Shows (record { fairness = h .fairness; closed = h .closed; stock = h .stock; waiters = w; reservation = h .reservation; tasks = h .tasks }) ss ts (emptyQueue q (plainOf h ss₀ ts₀))
+        → Shows (headWith (h .stock) w (h .reservation) h) ss ts (emptyQueue q (plainOf h ss₀ ts₀))
     unfolding emptyQueue
     emptied l w k =
         let o : drop i q ≡ [] = drop-of-length-le q {i = i} (omega (arith, e .long)) in
         record {
-          shaped =
-              record {
-                tasks = e .shaped .tasks;
-                waiters = k .fits;
-                slot-words = e .shaped .slot-words;
-                task-words = e .shaped .task-words;
-                slots-stand = e .shaped .slots-stand;
-                tasks-stand = e .shaped .tasks-stand;
-              };
+          shaped = head-shaped h ss ts (e .shaped) (h .stock) w (h .reservation) (k .fits);
           view = ap (λ (r : List Slot). withQueue r (plainOf h ss ts)) (k .view) ∙ sym (ap (λ (r : List Slot). emptyQueue r (withQueue r (plainOf h ss ts))) o) ∙ e .rest;
         }

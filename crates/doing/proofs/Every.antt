@@ -14,7 +14,7 @@ use Rattle.splitting.specs.Plain.{Plain}
 use Rattle.splitting.specs.Who.{quiet, tryBy, release, closing}
 use Rattle.replies.specs.declared.Reply.the-variants.{Done}
 use Rattle.head.specs.declared.Head.{Head}
-use Rattle.head.specs.declared.Granted.{Granted}
+use Rattle.head.specs.declared.Granting.{Granting}
 use Rattle.head.specs.declared.Answered.{Answered}
 use Rattle.head.specs.View.{plainOf, Grants, Answers}
 use Rattle.choosing.specs.declared.Choice.{Choice}
@@ -57,11 +57,11 @@ module _ (c : Choice) (t : TaskId) (h : Head) (ss ts : List ℕ) (r : Answered) 
   unfolding effectBy
   does-poll x n q e a = by (Polls x n q) e a
 
-  pub does-release : (n : ℕ) (g : Granted) → c ≡ Releases n → Grants g after awake gs (release n (plainOf h ss ts)) → r ≡ record { reply = Done; count = g .count; head = g .head } → Answers r after awake gs (effectBy t c (plainOf h ss ts))
+  pub does-release : (n : ℕ) (g : Granting) → c ≡ Releases n → Grants g after awake gs (release n (plainOf h ss ts)) → r ≡ record { reply = Done; count = g .count; head = g .head } → Answers r after awake gs (effectBy t c (plainOf h ss ts))
   unfolding effectBy
   does-release n g e k f = by (Releases n) e (done-with g r after awake gs _ f k)
 
-  pub does-drop : (x : Slot) (n : ℕ) (d : Dropping) (g : Granted) → c ≡ Drops x n d → Grants g after awake gs (dropBy d x (plainOf h ss ts)) → r ≡ record { reply = Done; count = g .count; head = g .head } → Answers r after awake gs (effectBy t c (plainOf h ss ts))
+  pub does-drop : (x : Slot) (n : ℕ) (d : Dropping) (g : Granting) → c ≡ Drops x n d → Grants g after awake gs (dropBy d x (plainOf h ss ts)) → r ≡ record { reply = Done; count = g .count; head = g .head } → Answers r after awake gs (effectBy t c (plainOf h ss ts))
   unfolding effectBy
   does-drop x n d g e k f = by (Drops x n d) e (done-with g r after awake gs _ f k)
 

@@ -1,4 +1,4 @@
-pub mod Altered
+pub mod Quiet
 pub mod Polls
 pub mod Allowing
 pub mod Released

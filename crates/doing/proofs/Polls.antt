@@ -22,16 +22,18 @@ use Rattle.records.specs.declared.Marking.{Marking}
 use Rattle.records.specs.declared.Marking.the-variants.{PollsGranted}
 use Rattle.records.specs.View.{marking}
 use Rattle.words.specs.View.{slotsOf, altered, grantsOf, SlotsShow}
+use Rattle.words.proofs.Grants.{no-grants}
 use Rattle.head.specs.declared.Head.{Head}
 use Rattle.head.specs.declared.Answered.{Answered}
 use Rattle.head.specs.View.{plainOf, Shaped, Shows, Answers}
+use Rattle.head.proofs.Shown.{headWith, reservedAs, head-shaped, slots-shown}
 use Rattle.scanning.specs.View.{AnyTasks}
 use Rattle.doing.specs.Effects.{SlotsAnswer, AnyGrants, pollTakes, GrantsPoll}
-use Rattle.doing.proofs.Altered.{no-grants, quieted, other, other-shaped, slots-so}
+use Rattle.doing.proofs.Quiet.{quieted}
 
 pub marked-so : (h : Head) (slots after : List ℕ) (x : Slot) (m : Marking) (y : Reply) → SlotsShow after slots (altered x (marking m) (slotsOf slots)) → length after ≡ length slots
     → SlotsAnswer (λ s. quiet (answerOf y) (alterRequest x (marking m) s)) (record { reply = y; count = 0; head = h }) after h slots
-marked-so h slots after x m y k n tasks grants s = quieted h after tasks grants y _ (slots-so h slots tasks s after (altered x (marking m) (slotsOf slots)) k n)
+marked-so h slots after x m y k n tasks grants s = quieted h after tasks grants y _ (slots-shown h slots tasks s after (altered x (marking m) (slotsOf slots)) k n)
 
 -- after the queue, the mark
 pub waits-so : (h b : Head) (slots joined after : List ℕ) (x : Slot) (t : TaskId) (front : Bool) (r : Answered) → AnyTasks (λ s. cond front (queueFront x s) (queueBack x s)) b joined h slots
@@ -46,11 +48,15 @@ pub takes-so : (h : Head) (slots after before grants : List ℕ) (t : TaskId) (x
     → GrantsPoll (record { reply = Granted; count = 1; head = h }) after grants t x n h slots
 takes-so h slots after before grants t x n k l g tasks s =
     record {
-      state = slots-so h slots tasks s after (altered x (marking PollsGranted) (slotsOf slots)) k l;
+      state = slots-shown h slots tasks s after (altered x (marking PollsGranted) (slotsOf slots)) k l;
       answer = refl;
       grants = g ∙ ap (λ (gs : List Grant). gs ++ record { taker = BySlot x; count = n; task = t } ∷ []) (no-grants before);
       few = omega arith;
     }
+
+-- another stock or reservation, and the same queue
+pub other-shaped : (h : Head) (ss ts : List ℕ) (n : ℕ) (v : Reservation) → Shaped h ss ts → Shaped (headWith n (h .waiters) v h) ss ts
+other-shaped h ss ts n v s = head-shaped h ss ts s n (h .waiters) v (s .waiters)
 
 -- ---- taking, and reserving
 module _ (t : TaskId) (x : Slot) (n : ℕ) where
@@ -59,14 +65,14 @@ module _ (t : TaskId) (x : Slot) (n : ℕ) where
   then-granted b ss ts after gs a r k g = subst (λ (p : Plain). Answers r after ts gs (pollTakes t x n p)) (k .view) (g ts (k .shaped))
 
   pub reserved-taken : (h b : Head) (v : Reservation) (ss ts awake after gs : List ℕ) (r : Answered) → reservationOf v ≡ none
-      → Shows b ss awake (wakeUnfair (plainOf (other h (h .stock - n) v) ss ts)) → GrantsPoll r after gs t x n b ss
+      → Shows b ss awake (wakeUnfair (plainOf (headWith (h .stock - n) (h .waiters) v h) ss ts)) → GrantsPoll r after gs t x n b ss
       → Answers r after awake gs (pollTakes t x n (plainOf h ss ts ▷ withReservation none ▷ taking n ▷ wakeUnfair))
   reserved-taken h b v ss ts awake after gs r e k g =
       then-granted b ss awake after gs _ r
       (record { shaped = k .shaped; view = k .view ∙ ap (λ (o : Option Slot). plainOf h ss ts ▷ withReservation o ▷ taking n ▷ wakeUnfair) e }) g
 
   pub taken-left : (h l : Head) (ss ts left awake after gs : List ℕ) (r : Answered) → Shaped h ss ts
-      → AnyTasks (leave x) l left (other h (h .stock - n) (h .reservation)) ss
+      → AnyTasks (leave x) l left (headWith (h .stock - n) (h .waiters) (h .reservation) h) ss
       → Shows l left awake (reblock t (plainOf l left ts)) → GrantsPoll r after gs t x n l left
       → Answers r after awake gs (pollTakes t x n (plainOf h ss ts ▷ taking n ▷ leave x ▷ reblock t))
   taken-left h l ss ts left awake after gs r s k w g =
@@ -78,8 +84,8 @@ pub left-there : (h l : Head) (x : Slot) (ss ts left : List ℕ) → Shaped h ss
 left-there h l x ss ts left s k = k ts s .shaped
 
 pub reserves-so : (t : TaskId) (x : Slot) (h l : Head) (v : Reservation) (ss ts left awake after : List ℕ) (r : Answered) → Shaped h ss ts → AnyTasks (leave x) l left h ss
-    → reservationOf v ≡ some x → Shows (other l (l .stock) v) left awake (reblock t (plainOf (other l (l .stock) v) left ts))
-    → SlotsAnswer (λ s. quiet pending (alterRequest x (polledPending t) s)) r after (other l (l .stock) v) left
+    → reservationOf v ≡ some x → Shows (reservedAs v l) left awake (reblock t (plainOf (reservedAs v l) left ts))
+    → SlotsAnswer (λ s. quiet pending (alterRequest x (polledPending t) s)) r after (reservedAs v l) left
     → AnyGrants r after awake (quiet pending (alterRequest x (polledPending t) (plainOf h ss ts ▷ leave x ▷ withReservation (some x) ▷ reblock t)))
 reserves-so t x h l v ss ts left awake after r s k e w a gs =
     let state =

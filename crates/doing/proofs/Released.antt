@@ -14,15 +14,17 @@ use Rattle.rules.specs.declared.Dropping.the-variants.{Leaving, Unreserving, Re
 use Rattle.rules.specs.Steps.Answer.{done}
 use Rattle.rules.specs.Refusals.{returned}
 use Rattle.splitting.specs.Plain.{Plain, strict, askedAt, withStock, withReservation}
-use Rattle.splitting.specs.Who.{Granting, scan, wakeUnfair, ungranted, scanOrWake, release, dropQueued, dropWork, free, quiet, doing}
+use Rattle.splitting.specs.Who.{Granting as GrantingRule, scan, wakeUnfair, ungranted, scanOrWake, release, dropQueued, dropWork, free, quiet, doing}
 use Rattle.replies.specs.declared.Reply.the-variants.{Done}
 use Rattle.words.specs.View.{slotsOf, SlotsShow}
+use Rattle.words.proofs.Grants.{no-grants}
 use Rattle.head.specs.declared.Head.{Head}
-use Rattle.head.specs.declared.Granted.{Granted}
+use Rattle.head.specs.declared.Granting.{Granting}
 use Rattle.head.specs.declared.Answered.{Answered}
 use Rattle.head.specs.View.{plainOf, Shaped, Shows, Grants, Answers}
+use Rattle.head.proofs.Shown.{slots-shown}
 use Rattle.doing.specs.Effects.{AnyGrants, Ungranted, MayDrop}
-use Rattle.doing.proofs.Altered.{no-grants, quieted, slots-so}
+use Rattle.doing.proofs.Quiet.{quieted}
 
 -- nothing granted on the way
 pub ungranted-so : (h : Head) (ss ts gs : List ℕ) (s : Plain) → Shows h ss ts s → Grants (record { head = h; count = 0 }) ss ts gs (ungranted s)
@@ -39,7 +41,7 @@ pub stands-so : (h : Head) (ss ts gs : List ℕ) → Shaped h ss ts → Grants (
 stands-so h ss ts gs s = ungranted-so h ss ts gs (plainOf h ss ts) (record { shaped = s; view = refl })
 
 -- ---- a release
-module _ (s : Plain) (r : Granted) (ss ts gs : List ℕ) where
+module _ (s : Plain) (r : Granting) (ss ts gs : List ℕ) where
   module _ (b : Bool) (e : b ≡ strict s) where
     pub scans : b ≡ true → Grants r ss ts gs (scan s) → Grants r ss ts gs (scanOrWake s)
     scans f g = subst (λ (c : Bool). Grants r ss ts gs (cond c (scan s) (ungranted (wakeUnfair s)))) (sym f ∙ e) g
@@ -59,7 +61,7 @@ module _ (s : Plain) (r : Granted) (ss ts gs : List ℕ) where
     releases z g = by-count false (sym (ne-eqb n 0 z)) g
 
 -- ---- a drop, by its decision
-module _ (d : Dropping) (n : ℕ) (x : Slot) (s : Plain) (m : MayDrop d n x s) (r : Granted) (ss ts gs : List ℕ) where
+module _ (d : Dropping) (n : ℕ) (x : Slot) (s : Plain) (m : MayDrop d n x s) (r : Granting) (ss ts gs : List ℕ) where
   as-decided : (k : Dropping) → d ≡ k → Grants r ss ts gs (dropWork k x s) → Grants r ss ts gs (dropWork d x s)
   as-decided k e g = subst (λ (c : Dropping). Grants r ss ts gs (dropWork c x s)) (sym e) g
 
@@ -82,11 +84,11 @@ module _ (d : Dropping) (n : ℕ) (x : Slot) (s : Plain) (m : MayDrop d n x s) (
   rests e g = as-decided Nothing e g
 
 -- and the slot is free
-pub dropped : (r : Granted) (ss ts gs after : List ℕ) (x : Slot) (g : Granting) → Grants r ss ts gs g
+pub dropped : (r : Granting) (ss ts gs after : List ℕ) (x : Slot) (g : GrantingRule) → Grants r ss ts gs g
     → SlotsShow after ss (set (slotsOf ss) (x .0) none) → length after ≡ length ss
     → Grants r after ts gs (record { grants = g .grants; state = free x (g .state) })
 dropped r ss ts gs after x g k f n =
-    let v = slots-so (r .head) ss ts (k .state .shaped) after (set (slotsOf ss) (x .0) none) f n in
+    let v = slots-shown (r .head) ss ts (k .state .shaped) after (set (slotsOf ss) (x .0) none) f n in
     record {
       state = record { shaped = v .shaped; view = v .view ∙ ap (λ (a : Plain). free x a) (k .state .view) };
       grants = k .grants;
@@ -94,6 +96,6 @@ dropped r ss ts gs after x g k f n =
     }
 
 -- done, with what was granted
-pub done-with : (g : Granted) (r : Answered) (ss ts gs : List ℕ) (o : Granting) → r ≡ record { reply = Done; count = g .count; head = g .head } → Grants g ss ts gs o → Answers r ss ts gs (doing o)
+pub done-with : (g : Granting) (r : Answered) (ss ts gs : List ℕ) (o : GrantingRule) → r ≡ record { reply = Done; count = g .count; head = g .head } → Grants g ss ts gs o → Answers r ss ts gs (doing o)
 done-with g r ss ts gs o e k =
     subst (λ (r : Answered). Answers r ss ts gs (doing o)) (sym e) (record { state = k .state; answer = refl; grants = k .grants; few = k .few })

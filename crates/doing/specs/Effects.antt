@@ -20,7 +20,7 @@ use Rattle.splitting.specs.Plain.{Plain, polledGranted, askedAt, alterRequest}
 use Rattle.splitting.specs.Who.{Outcome}
 use Rattle.splitting.specs.Who as W
 use Rattle.head.specs.declared.Head.{Head}
-use Rattle.head.specs.declared.Granted.{Granted}
+use Rattle.head.specs.declared.Granting.{Granting}
 use Rattle.head.specs.declared.Answered.{Answered}
 use Rattle.head.specs.View.{plainOf, Shaped, Grants, Answers}
 use Rattle.choosing.specs.declared.Choice.{Choice}
@@ -34,7 +34,7 @@ SlotsAnswer f r after h before = (tasks grants : List ℕ) → Shaped h before t
 abbrev pub AnyGrants : Answered → List ℕ → List ℕ → Outcome → Type 0
 AnyGrants r slots tasks o = (grants : List ℕ) → Answers r slots tasks grants o
 
-abbrev pub Ungranted : Granted → List ℕ → List ℕ → Plain → Type 0
+abbrev pub Ungranted : Granting → List ℕ → List ℕ → Plain → Type 0
 Ungranted r slots tasks s = (grants : List ℕ) → Grants r slots tasks grants (W.ungranted s)
 
 -- the marks and the one grant of a poll that takes: whatever the tasks

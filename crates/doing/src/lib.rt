@@ -21,7 +21,7 @@ ghost use Rattle.doing.specs.Effects.{SlotsAnswer, AnyGrants, pollTakes,
 ghost use Rattle.choosing.specs.Choice.{pollBy, dropBy, effectBy, pollMoves, movesIn};
 use choosing::Choice;
 use head::Answered;
-use head::Granted;
+use head::Granting;
 use head::Head;
 use queue::Reservation;
 use records::Marking;
@@ -200,7 +200,7 @@ fn take_by_try(
 // ---- giving back
 
 // Strictly fair, those at the front of the queue are granted what fits; unfair, those who could go on are woken, and race.
-fn scan_or_wake(h: Head, slots: &mut [u32], tasks: &mut [u32], grants: &mut [u32]) -> Granted
+fn scan_or_wake(h: Head, slots: &mut [u32], tasks: &mut [u32], grants: &mut [u32]) -> Granting
     requires { ⌜ (Shaped h (now slots) (now tasks)) × (length (now grants) ≡ slotCount * 3) × (twice (waitersOf (h .waiters)) ≡ false) ⌝ }
     ensures { λ r. ⌜ Grants r (now (slots .exit)) (now (tasks .exit)) (now (grants .exit)) (scanOrWake (plainOf h (now (slots .entry)) (now (tasks .entry)))) ⌝ }
 {
@@ -208,7 +208,7 @@ fn scan_or_wake(h: Head, slots: &mut [u32], tasks: &mut [u32], grants: &mut [u32
         return scanning::unblock_waiters_from_front(h, slots, tasks, grants);
     }
     let woken = rousing::wake_unfair_waiters(h, slots, tasks);
-    Granted {
+    Granting {
         head: woken,
         count: 0,
     }
@@ -221,12 +221,12 @@ fn release(
     tasks: &mut [u32],
     grants: &mut [u32],
     num_permits: u32,
-) -> Granted
+) -> Granting
     requires { ⌜ (Shaped h (now slots) (now tasks)) × (length (now grants) ≡ slotCount * 3) × (twice (waitersOf (h .waiters)) ≡ false) × MayRelease «num_permits» (plainOf h (now slots) (now tasks)) ⌝ }
     ensures { λ r. ⌜ Grants r (now (slots .exit)) (now (tasks .exit)) (now (grants .exit)) (releaseOf «num_permits» (plainOf h (now (slots .entry)) (now (tasks .entry)))) ⌝ }
 {
     if num_permits == 0 {
-        return Granted { head: h, count: 0 };
+        return Granting { head: h, count: 0 };
     }
     let mut more = h;
     more.stock = more.stock + num_permits;
@@ -234,12 +234,12 @@ fn release(
 }
 
 // The reservation ends, and the others race.
-fn unreserve(h: Head, slots: &[u32], tasks: &mut [u32]) -> Granted
+fn unreserve(h: Head, slots: &[u32], tasks: &mut [u32]) -> Granting
     requires { ⌜ Shaped h (now slots) (now tasks) ⌝ }
     ensures { λ r. ⌜ Ungranted r (now (slots .entry)) (now (tasks .exit)) (plainOf h (now (slots .entry)) (now (tasks .entry)) ▷ withReservation none ▷ wakeUnfair) ⌝ }
 {
     let woken = rousing::cancel_reservation(h, slots, tasks);
-    Granted {
+    Granting {
         head: woken,
         count: 0,
     }
@@ -254,7 +254,7 @@ fn drop_work(
     x: Slot,
     back: u32,
     d: Dropping,
-) -> Granted
+) -> Granting
     requires { ⌜ (Shaped h (now slots) (now tasks)) × (length (now grants) ≡ slotCount * 3) × (twice (waitersOf (h .waiters)) ≡ false) × MayDrop d back x (plainOf h (now slots) (now tasks)) ⌝ }
     ensures { λ r. ⌜ Grants r (now (slots .exit)) (now (tasks .exit)) (now (grants .exit)) (dropWork d x (plainOf h (now (slots .entry)) (now (tasks .entry)))) ⌝ }
 {
@@ -262,7 +262,7 @@ fn drop_work(
         Dropping::Leaving => scanning::remove_waiter(h, slots, tasks, grants, x),
         Dropping::Unreserving => unreserve(h, slots, tasks),
         Dropping::Returning => release(h, slots, tasks, grants, back),
-        Dropping::Nothing => Granted { head: h, count: 0 },
+        Dropping::Nothing => Granting { head: h, count: 0 },
     }
 }
 
@@ -275,7 +275,7 @@ fn drop_request(
     x: Slot,
     back: u32,
     d: Dropping,
-) -> Granted
+) -> Granting
     requires { ⌜ (Shaped h (now slots) (now tasks)) × (length (now grants) ≡ slotCount * 3) × (twice (waitersOf (h .waiters)) ≡ false) × MayDrop d back x (plainOf h (now slots) (now tasks)) ⌝ }
     ensures { λ r. ⌜ Grants r (now (slots .exit)) (now (tasks .exit)) (now (grants .exit)) (dropBy d x (plainOf h (now (slots .entry)) (now (tasks .entry)))) ⌝ }
 {
@@ -287,7 +287,7 @@ fn drop_request(
 // ---- what is answered where nothing is decided
 
 // Done, with what was granted on the way.
-fn done_with(g: Granted) -> Answered
+fn done_with(g: Granting) -> Answered
     ensures { λ r. ⌜ r ≡ record { reply = Done; count = g .count; head = g .head } ⌝ }
 {
     let head = g.head;

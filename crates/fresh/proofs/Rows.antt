@@ -13,14 +13,9 @@ use Rattle.rules.specs.Sizes.{width, maxTasks}
 use Rattle.rules.specs.Clock.{empty}
 use Rattle.splitting.specs.Asking.{freshClocks}
 use Rattle.clock.specs.declared.VectorClock.{VectorClock}
-use Rattle.times.specs.View.{clocksOf, clocksAt}
+use Rattle.times.specs.View.{clocksAt}
+use Rattle.times.proofs.Clocks.{clocks-length}
 use Rattle.fresh.specs.Starting.{Heard}
-use Rattle.tables.specs.Table.{row}
-use Rattle.tables.proofs.Tables.{table-length}
-
-clocks-length : (w n : ℕ) (xs : List ℕ) → length (clocksOf w n xs) ≡ n
-unfolding clocksOf
-clocks-length w n xs = table-length (row w xs) (empty w) n 0
 
 -- one entry more of a row, over a clock that was empty from there on
 pub entry-more : (l : List ℕ) (base j w : ℕ) → base + j < length l → j < w

@@ -5,12 +5,12 @@ use mathlib.Core.List.{List}
 use lib.ListN.{length}
 use Rattle.rules.specs.Sizes.{maxTasks, slotCount}
 use Rattle.splitting.specs.Plain.{Plain}
-use Rattle.splitting.specs.Who.{Granting, Outcome}
+use Rattle.splitting.specs.Who.{Granting as GrantingRule, Outcome}
 use Rattle.replies.specs.Answers.{answerOf}
 use Rattle.queue.specs.View.{waitersOf, reservationOf}
 use Rattle.words.specs.View.{requestWords, taskWords, slotsOf, tasksOf, grantsOf, SlotsStand, TasksStand}
 use Rattle.head.specs.declared.Head.{Head}
-use Rattle.head.specs.declared.Granted.{Granted}
+use Rattle.head.specs.declared.Granting.{Granting}
 use Rattle.head.specs.declared.Answered.{Answered}
 
 abbrev pub plainOf : Head → List ℕ → List ℕ → Plain
@@ -40,7 +40,7 @@ pub record Shows (h : Head) (ss ts : List ℕ) (a : Plain) : Type 0 where
   pub view : plainOf h ss ts ≡ a
 
 -- and with the grants made on the way to it, in order
-pub record Grants (r : Granted) (ss ts gs : List ℕ) (g : Granting) : Type 0 where
+pub record Grants (r : Granting) (ss ts gs : List ℕ) (g : GrantingRule) : Type 0 where
   pub state : Shows (r .head) ss ts (g .state)
   pub grants : grantsOf (r .count) gs ≡ g .grants
   pub few : r .count ≤ slotCount

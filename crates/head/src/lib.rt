@@ -19,7 +19,7 @@ pub struct Head {
 }
 
 // A head after some grants, and how many they are; the grants stand in words of their own.
-pub struct Granted {
+pub struct Granting {
     pub head: Head,
     pub count: usize,
 }

@@ -27,7 +27,7 @@ use Rattle.records.specs.View.{requestOf, Stands}
 use Rattle.words.specs.View.{slotsOf}
 use Rattle.head.specs.declared.Head.{Head}
 use Rattle.head.specs.View.{plainOf}
-use Rattle.choosing.proofs.Deciding.{is-made}
+use Rattle.queue.proofs.Reserved.{is-made}
 use Rattle.planning.specs.Plans.{Says, actorGrounds}
 use Rattle.planning.proofs.Composing.{first-after}
 use Rattle.points.specs.Told.{answer}

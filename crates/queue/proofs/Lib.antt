@@ -1,2 +1,3 @@
 pub mod Shifting
 pub mod Lists
+pub mod Reserved

@@ -1,15 +1,13 @@
 -- What the queue and the reservation stand for, and what is said of them.
-use Prim.Native.Nat.{ℕ, suc, _+_, _≤_, _<_}
+use Prim.Native.Nat.{ℕ, suc, _+_, _≤_}
 use mathlib.Core.Path.{_≡_}
-use mathlib.Core.Bool.{false, cond, _||_}
+use mathlib.Core.Bool.{cond}
 use mathlib.Core.List.{List, [], _∷_, _++_}
 use mathlib.Core.Option.{Option, none, some}
-use lib.ListN.{getD, take, drop}
+use lib.ListN.{take, drop}
 use Rattle.rules.specs.declared.Slot.{Slot}
 use Rattle.rules.specs.State.{sameSlot}
-use Rattle.rules.specs.Broken.{anyOf, member, twice, isBeyond}
 use Rattle.queue.specs.declared.Waiters.{Waiters}
-use Rattle.queue.specs.declared.Names.{Names}
 use Rattle.queue.specs.declared.Reservation.{Reservation}
 
 -- the first `len` places
@@ -37,8 +35,3 @@ removeAt i q = take i q ++ drop (i + 1) q
 pub record Holds (w : Waiters) (q : List Slot) : Type 0 where
   pub fits : w .len ≤ 32
   pub view : waitersOf w ≡ q
-
--- what is said of the slots that a queue names: wrong if one is beyond the slots or stands twice; else each is seen that is named
-pub record Named (r : Names) (q : List Slot) : Type 0 where
-  pub wrong : r .wrong ≡ (anyOf isBeyond q || twice q)
-  pub seen : r .wrong ≡ false → (k : ℕ) → k < 32 → getD (r .seen) k false ≡ member (record { 0 = k }) q

@@ -7,7 +7,7 @@ ghost use Prim.Native.Nat.{_+_, _-_, _≤_, _<_};
 ghost use lib.ListN.{length, getD, take, drop};
 ghost use Rattle.rules.specs.State.{isThe};
 ghost use Rattle.rules.specs.Scan.{without};
-ghost use Rattle.queue.specs.View.{waitersOf, slot0, indexOf, removeAt, Holds, Named, reservationOf};
+ghost use Rattle.queue.specs.View.{waitersOf, slot0, indexOf, removeAt, Holds, reservationOf};
 use rules::Slot;
 
 pub struct Waiters {
@@ -19,12 +19,6 @@ pub struct Waiters {
 pub struct Reservation {
     pub made: bool,
     pub slot: Slot,
-}
-
-// Which slots a queue names, and whether it names one of 32 or more, or one twice.
-pub struct Names {
-    pub seen: [bool; 32],
-    pub wrong: bool,
 }
 
 impl Reservation {
@@ -155,29 +149,6 @@ impl Waiters {
             return self.remove_at(i);
         }
         self
-    }
-
-    // Which slots the queue names.
-    pub fn names(self) -> Names
-        requires { ⌜ self .len ≤ 32 ⌝ }
-        ensures { λ r. ⌜ Named r (waitersOf self) ⌝ }
-    {
-        let mut seen = [false; 32];
-        let len = self.len as usize;
-        let mut i: usize = 0;
-        while i < len {
-            let x = self.slots[i];
-            let k = x.0 as usize;
-            if 32 <= k {
-                return Names { seen, wrong: true };
-            }
-            if seen[k] {
-                return Names { seen, wrong: true };
-            }
-            seen[k] = true;
-            i += 1;
-        }
-        Names { seen, wrong: false }
     }
 }
 

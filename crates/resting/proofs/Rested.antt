@@ -25,10 +25,11 @@ use Rattle.records.specs.declared.Request.{Request}
 use Rattle.records.specs.declared.Task.{Task}
 use Rattle.records.specs.declared.Marking.the-variants.{PollsGranted, PollsClosed, PollsPending}
 use Rattle.records.specs.View.{seen, taskOf}
-use Rattle.tables.specs.Table.{table}
-use Rattle.words.specs.View.{slotsOf, tasksOf, grantsOf, SlotsShow, TasksShow}
+use Rattle.words.specs.View.{slotsOf, tasksOf, SlotsShow, TasksShow}
+use Rattle.words.proofs.Grants.{no-grants}
 use Rattle.head.specs.declared.Head.{Head}
 use Rattle.head.specs.View.{plainOf, Shaped, Answers}
+use Rattle.head.proofs.Shown.{slots-shown, tasks-shown}
 use Rattle.choosing.specs.declared.Choice.{Choice}
 use Rattle.choosing.specs.declared.Choice.the-variants.{Makes, Polls, Tries, Drops, Sleeps, Finishes}
 use Rattle.choosing.specs.Choice.{effectBy, movesIn, pollMoves, tryMoves, dropMoves}
@@ -51,19 +52,8 @@ module _ (t : TaskId) (c : Choice) (y : Reply) (r : Rest) (said : r ≡ Rests y)
         moves = ap moved said ∙ sym stays;
         still = λ f. absurd (not-both r y said f);
         rests = λ v f h ts z.
-            let shaped : Shaped h ss′ ts =
-            record {
-              tasks = z .tasks;
-              waiters = z .waiters;
-              slot-words = e ∙ z .slot-words;
-              task-words = z .task-words;
-              slots-stand = s .stand (z .slots-stand);
-              tasks-stand = z .tasks-stand;
-            }
-            in
-            let view = ap (λ (l : List (Option RequestRule)). withSlots l (plainOf h ss ts)) (s .view) in
             subst (λ (u : Reply). Rested u h ss′ ts (effectBy t c (plainOf h ss ts))) (same-reply r y v said f)
-            (subst (Rested y h ss′ ts) (k h ts) (record { state = record { shaped = shaped; view = view }; answer = refl; grants = refl }));
+            (subst (Rested y h ss′ ts) (k h ts) (record { state = slots-shown h ss ts z ss′ l s e; answer = refl; grants = refl }));
       }
 
   tasks-rest : (n : ℕ) (ts ts′ : List ℕ) (l : List TaskRule) → TasksShow n ts′ ts l → length ts′ ≡ length ts
@@ -74,19 +64,8 @@ module _ (t : TaskId) (c : Choice) (y : Reply) (r : Rest) (said : r ≡ Rests y)
         still = λ f. absurd (not-both r y said f);
         rests = λ v f h ss q z.
             let s′ : TasksShow (h .tasks) ts′ ts l = subst (λ (m : ℕ). TasksShow m ts′ ts l) (sym q) s in
-            let shaped : Shaped h ss ts′ =
-            record {
-              tasks = z .tasks;
-              waiters = z .waiters;
-              slot-words = z .slot-words;
-              task-words = e ∙ z .task-words;
-              slots-stand = z .slots-stand;
-              tasks-stand = s′ .stand (z .tasks-stand);
-            }
-            in
-            let view = ap (λ (l : List TaskRule). withTasks l (plainOf h ss ts)) (s′ .view) in
             subst (λ (u : Reply). Rested u h ss ts′ (effectBy t c (plainOf h ss ts))) (same-reply r y v said f)
-            (subst (Rested y h ss ts′) (k h ss q) (record { state = record { shaped = shaped; view = view }; answer = refl; grants = refl }));
+            (subst (Rested y h ss ts′) (k h ss q) (record { state = tasks-shown h ss ts z ts′ l s′ e; answer = refl; grants = refl }));
       }
 
 -- ---- not done
@@ -208,7 +187,6 @@ module _ (t : TaskId) (c : Choice) (n : ℕ) (r : Rest) (ss′ ts′ ss ts : Lis
 
   pub rests-answer : (y : Reply) → r ≡ Rests y → (h : Head) → h .tasks ≡ n → Shaped h ss ts → (gs : List ℕ)
       → Answers (record { reply = y; count = 0; head = h }) ss′ ts′ gs (effectBy t c (plainOf h ss ts))
-  unfolding grantsOf table
   rests-answer y e h q z gs =
       let d = by .rests y e h q z in
-      record { state = d .state; answer = d .answer; grants = sym (d .grants); few = omega arith }
+      record { state = d .state; answer = d .answer; grants = no-grants gs ∙ sym (d .grants); few = omega arith }

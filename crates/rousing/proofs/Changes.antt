@@ -15,6 +15,7 @@ use Rattle.records.specs.declared.Task.{Task as TaskRead}
 use Rattle.records.specs.declared.Request.{Request as RequestRead}
 use Rattle.records.specs.View.{taskOf, requestOf, Stands}
 use Rattle.words.specs.View.{slotsOf, tasksOf, TasksShow}
+use Rattle.words.proofs.Tasks.{unchanged, said}
 use Rattle.rousing.specs.declared.Change.{Change}
 use Rattle.rousing.specs.declared.Change.the-variants.{Wake, WakeIfEnough, Reblock}
 use Rattle.rousing.specs.Parts.{requestIn, concerns, changeOf, awake, ownerChanged, wokenIfAsked}
@@ -53,14 +54,6 @@ module _ (k : Change) (a b : Task) where
   changes-block v n me e f = rw e f
 
 -- ---- the task in its words
--- no word written
-pub unchanged : (n : ℕ) (w : List ℕ) (ts : List Task) → tasksOf n w ≡ ts → TasksShow n w w ts
-unchanged n w ts e = record { view = e; stand = λ h. h }
-
--- the same tasks, said otherwise
-pub said : (n : ℕ) (after before : List ℕ) (ts us : List Task) → TasksShow n after before ts → ts ≡ us → TasksShow n after before us
-said n after before ts us s e = record { view = s .view ∙ e; stand = s .stand }
-
 module _ (k : Change) (ss : List ℕ) (x : Slot) (r : RequestRead) (s : Stands r (getD (slotsOf ss) (x .0) none)) (n : ℕ) (w : List ℕ) (b : Bool) (eb : b ≡ concerns k (requestOf r)) where
   abbrev ts : List Task
   ts = tasksOf n w

@@ -1,7 +1,7 @@
 -- A head with the words of its tasks changed shows what the rules say.
 use Prim.Native.Nat.{ℕ}
-use mathlib.Core.Path.{_≡_, refl, sym, ap, _∙_}
-use mathlib.Core.Bool.{Bool, true, false, cond, not}
+use mathlib.Core.Path.{_≡_, sym, ap, _∙_}
+use mathlib.Core.Bool.{Bool, true, false, not}
 use mathlib.Core.List.{List}
 use mathlib.Core.Option.{Option, none, some}
 use borrow.Author.Tests.{not-true, not-false}
@@ -9,71 +9,32 @@ use lib.ListN.{length, getD}
 use Rattle.rules.specs.declared.TaskId.{TaskId}
 use Rattle.rules.specs.declared.Slot.{Slot}
 use Rattle.rules.specs.Task.{isFinished}
-use Rattle.rules.specs.State.{isStrict, isSome}
-use Rattle.splitting.specs.Plain.{Plain, Task, Request, noTask, ownerFinished, withTasks, withReservation}
+use Rattle.rules.specs.State.{isStrict}
+use Rattle.splitting.specs.Plain.{Plain, Request, noTask, ownerFinished, withTasks, withReservation}
 use Rattle.splitting.specs.Who.{wakeUnfair, reblock}
 use Rattle.queue.specs.declared.Reservation.{Reservation}
 use Rattle.queue.specs.View.{waitersOf, reservationOf}
+use Rattle.queue.proofs.Reserved.{is-made}
 use Rattle.records.specs.declared.Request.{Request as RequestRead}
 use Rattle.records.specs.View.{requestOf, Stands}
 use Rattle.words.specs.View.{slotsOf, tasksOf, TasksShow}
 use Rattle.head.specs.declared.Head.{Head}
 use Rattle.head.specs.View.{plainOf, Shaped, Shows}
+use Rattle.head.proofs.Shown.{shown, reservedAs, tasks-shown, unreserved-shown}
 use Rattle.rousing.specs.declared.Change.the-variants.{WakeIfEnough, Reblock}
 use Rattle.rousing.specs.Parts.{forEach, wokenIfAsked}
 use Rattle.rousing.proofs.Rules.{wakes-queue, wakes-past, wakes-holder, reblocks-none, reblocks-queue}
 
--- the same state, said otherwise
-pub shown : (h : Head) (ss ts : List ℕ) (a b : Plain) → Shows h ss ts a → a ≡ b → Shows h ss ts b
-shown h ss ts a b s e = record { shaped = s .shaped; view = s .view ∙ e }
-
--- the head with another reservation
-abbrev pub reservedAs : Reservation → Head → Head
-reservedAs v h = record { fairness = h .fairness; closed = h .closed; stock = h .stock; waiters = h .waiters; reservation = v; tasks = h .tasks }
-
 module _ (h : Head) (ss ts : List ℕ) (s : Shaped h ss ts) where
   abbrev p : Plain
   p = plainOf h ss ts
-
-  pub tasks-shown : (after : List ℕ) (us : List Task) → length after ≡ length ts → TasksShow (h .tasks) after ts us → Shows h ss after (withTasks us p)
-  tasks-shown after us e k =
-      record {
-        shaped =
-            record {
-              tasks = s .tasks;
-              waiters = s .waiters;
-              slot-words = s .slot-words;
-              task-words = e ∙ s .task-words;
-              slots-stand = s .slots-stand;
-              tasks-stand = k .stand (s .tasks-stand);
-            };
-        view = ap (λ (l : List Task). withTasks l p) (k .view);
-      }
-
-  -- the same, and no reservation
-  pub unreserved-shown : (after : List ℕ) (us : List Task) → length after ≡ length ts → TasksShow (h .tasks) after ts us → (v : Reservation) → reservationOf v ≡ none
-      → Shows (reservedAs v h) ss after (withReservation none (withTasks us p))
-  unreserved-shown after us e k v n =
-      let t = tasks-shown after us e k in
-      record {
-        shaped =
-            record {
-              tasks = s .tasks;
-              waiters = s .waiters;
-              slot-words = s .slot-words;
-              task-words = t .shaped .task-words;
-              slots-stand = s .slots-stand;
-              tasks-stand = t .shaped .tasks-stand;
-            };
-        view = ap (λ (o : Option Slot). withReservation o (plainOf h ss after)) n ∙ ap (withReservation none) (t .view);
-      }
 
   -- Waking the unfair.
 
   pub shows-cancelled : (after : List ℕ) (v : Reservation) → length after ≡ length ts
       → TasksShow (h .tasks) after ts (forEach (WakeIfEnough (h .stock)) (slotsOf ss) (waitersOf (h .waiters)) (tasksOf (h .tasks) ts))
       → reservationOf v ≡ none → Shows (reservedAs v h) ss after (wakeUnfair (withReservation none p))
-  shows-cancelled after v e k n = shown (reservedAs v h) ss after _ _ (unreserved-shown after _ e k v n) (sym (wakes-queue p))
+  shows-cancelled after v e k n = shown (reservedAs v h) ss after _ _ (unreserved-shown h ss ts s after _ k e v n) (sym (wakes-queue p))
 
   pub shows-unreserved : not (h .reservation .made) ≡ true → (r : Head) (after : List ℕ) → Shows r ss after (wakeUnfair (withReservation none p)) → Shows r ss after (wakeUnfair p)
   shows-unreserved m r after k =
@@ -94,7 +55,7 @@ module _ (h : Head) (ss ts : List ℕ) (s : Shaped h ss ts) where
     pub shows-held : f ≡ false → (after : List ℕ) → length after ≡ length ts
         → TasksShow (h .tasks) after ts (wokenIfAsked (h .stock) (requestOf r) (tasksOf (h .tasks) ts)) → Shows h ss after (wakeUnfair p)
     shows-held e after l k =
-        shown h ss after _ _ (tasks-shown after _ l k)
+        shown h ss after _ _ (tasks-shown h ss ts s after _ k l)
         (ap (λ (z : Request). withTasks (wokenIfAsked (h .stock) z (tasksOf (h .tasks) ts)) p) (st .view)
         ∙ sym (wakes-holder (h .reservation .slot) p made (ended ∙ e)))
 
@@ -103,14 +64,10 @@ module _ (h : Head) (ss ts : List ℕ) (s : Shaped h ss ts) where
   pub shows-fair : (me : TaskId) (b : Bool) → b ≡ isStrict (h .fairness) → b ≡ true → Shows h ss ts (reblock me p)
   shows-fair me b e f = record { shaped = s; view = sym (reblocks-none me p (sym e ∙ f)) }
 
-  is-made : (b : Bool) (x : Slot) → isSome (cond b (some x) none) ≡ b
-  is-made true x = refl
-  is-made false x = refl
-
   pub shows-reblocked : (me : TaskId) (b : Bool) → b ≡ isStrict (h .fairness) → b ≡ false → (after : List ℕ) → length after ≡ length ts
       → TasksShow (h .tasks) after ts (forEach (Reblock (h .reservation .made) (h .stock) me) (slotsOf ss) (waitersOf (h .waiters)) (tasksOf (h .tasks) ts))
       → Shows h ss after (reblock me p)
   shows-reblocked me b e f after l k =
-      shown h ss after _ _ (tasks-shown after _ l k)
-      (ap (λ (v : Bool). withTasks (forEach (Reblock v (h .stock) me) (slotsOf ss) (waitersOf (h .waiters)) (tasksOf (h .tasks) ts)) p) (sym (is-made (h .reservation .made) (h .reservation .slot)))
+      shown h ss after _ _ (tasks-shown h ss ts s after _ k l)
+      (ap (λ (v : Bool). withTasks (forEach (Reblock v (h .stock) me) (slotsOf ss) (waitersOf (h .waiters)) (tasksOf (h .tasks) ts)) p) (sym (is-made (h .reservation)))
       ∙ sym (reblocks-queue me p (sym e ∙ f)))

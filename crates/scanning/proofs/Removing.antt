@@ -15,17 +15,18 @@ use Rattle.rules.specs.Broken.{twice}
 use Rattle.rules.specs.Steps.{isFirst}
 use Rattle.rules.proofs.Queues.{once-without}
 use Rattle.splitting.specs.Plain.{Plain, Request as RequestRule, strict}
-use Rattle.splitting.specs.Who.{Granting, leave, scan, ungranted, frontBypassable, dropQueued}
+use Rattle.splitting.specs.Who.{Granting as GrantingRule, leave, scan, ungranted, frontBypassable, dropQueued}
 use Rattle.queue.specs.declared.Waiters.{Waiters}
 use Rattle.queue.specs.View.{waitersOf}
 use Rattle.records.specs.declared.Request.{Request}
 use Rattle.records.specs.View.{Stands}
 use Rattle.words.specs.View.{requestWords}
+use Rattle.words.proofs.Grants.{no-grants}
 use Rattle.head.specs.declared.Head.{Head}
-use Rattle.head.specs.declared.Granted.{Granted}
+use Rattle.head.specs.declared.Granting.{Granting}
 use Rattle.head.specs.View.{plainOf, Shaped, Grants}
 use Rattle.scanning.specs.View.{AnyTasks, frontAs}
-use Rattle.scanning.proofs.Scanning.{turn-within, no-grants}
+use Rattle.scanning.proofs.Scanning.{turn-within}
 
 -- ---- the front
 pub front-within : (w : Waiters) (n : ℕ) → n ≡ length (waitersOf w) → (n ≡ 0 → ⊥) → 0 < w .len
@@ -80,7 +81,7 @@ module _ (strict first front f : Bool) (ef : f ≡ strict) where
   scan-front u h b e = e ∙ sym (fair u ∙ ap (λ (b : Bool). b || front) h)
 
 -- ---- the whole
-abbrev thenScan : Plain → Bool → Granting
+abbrev thenScan : Plain → Bool → GrantingRule
 thenScan a f = cond (strict a && (f || frontBypassable (a .queue) a)) (scan a) (ungranted a)
 
 module _ (h l : Head) (slots after tasks : List ℕ) (x : Slot) (s : Shaped h slots tasks) (k : AnyTasks (leave x) l after h slots) where
@@ -106,12 +107,12 @@ module _ (h l : Head) (slots after tasks : List ℕ) (x : Slot) (s : Shaped h sl
         ∙ ap (λ (f : Bool). cond (strict left && (first || f)) (scan left) (ungranted left)) (sym (front-there (left .queue) left))
         ∙ ap (λ (c : Bool). cond c (scan left) (ungranted left)) (sym eb)
 
-    pub removed-scanned : b ≡ true → (r : Granted) (ss ts gs : List ℕ) → Grants r ss ts gs (scan left) → Grants r ss ts gs (dropQueued x (plainOf h slots tasks))
+    pub removed-scanned : b ≡ true → (r : Granting) (ss ts gs : List ℕ) → Grants r ss ts gs (scan left) → Grants r ss ts gs (dropQueued x (plainOf h slots tasks))
     removed-scanned t r ss ts gs g =
-        subst (λ (o : Granting). Grants r ss ts gs o) (sym (decided ∙ ap (λ (c : Bool). cond c (scan left) (ungranted left)) t)) g
+        subst (λ (o : GrantingRule). Grants r ss ts gs o) (sym (decided ∙ ap (λ (c : Bool). cond c (scan left) (ungranted left)) t)) g
 
     pub removed-only : b ≡ false → (gs : List ℕ) → Grants (record { head = l; count = 0 }) after tasks gs (dropQueued x (plainOf h slots tasks))
     removed-only t gs =
-        subst (λ (o : Granting). Grants (record { head = l; count = 0 }) after tasks gs o)
+        subst (λ (o : GrantingRule). Grants (record { head = l; count = 0 }) after tasks gs o)
         (sym (decided ∙ ap (λ (c : Bool). cond c (scan left) (ungranted left)) t))
         (record { state = record { shaped = left-shaped; view = refl }; grants = no-grants gs; few = omega arith })

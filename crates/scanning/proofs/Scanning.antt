@@ -16,12 +16,12 @@ use Rattle.rules.specs.Broken.{twice}
 use Rattle.rules.specs.Scan.{without}
 use Rattle.splitting.specs.Plain.{Plain, Request as RequestRule}
 use Rattle.splitting.specs.Who.{Granting, verdict, grantQueued, queueGrant, leave, scan}
-use Rattle.tables.specs.Table.{table}
 use Rattle.queue.specs.declared.Waiters.{Waiters}
 use Rattle.queue.specs.View.{waitersOf, slot0}
 use Rattle.records.specs.declared.Request.{Request}
 use Rattle.records.specs.View.{requestOf, Stands}
 use Rattle.words.specs.View.{slotsOf, tasksOf, grantsOf}
+use Rattle.words.proofs.Grants.{no-grants}
 use Rattle.head.specs.declared.Head.{Head}
 use Rattle.head.specs.View.{plainOf, Shaped, Shows, Grants}
 use Rattle.scanning.specs.View.{AnyTasks, StandsAt, verdictAs}
@@ -31,10 +31,6 @@ use Rattle.scanning.proofs.Stored.{queue-within, judged-there, fits-say
 
 pub turn-within : (w : Waiters) (i n : ℕ) → n ≡ length (waitersOf w) → i < n → i < w .len
 turn-within w i n e l = omega (arith, queue-within w)
-
-pub no-grants : (g : List ℕ) → grantsOf 0 g ≡ []
-unfolding grantsOf table
-no-grants g = refl
 
 pub record Scanning (h : Head) (slots₀ tasks₀ : List ℕ) (now : Head) (slots tasks grants : List ℕ) (count i : ℕ) : Type 0 where
   pub shaped : Shaped now slots tasks

@@ -28,6 +28,7 @@ use Rattle.records.specs.View.{Stands, marking}
 use Rattle.words.specs.View.{slotsOf, tasksOf, altered, SlotsShow, TasksShow}
 use Rattle.head.specs.declared.Head.{Head}
 use Rattle.head.specs.View.{plainOf, Shaped, Shows}
+use Rattle.head.proofs.Shown.{headWith, head-shaped, slots-shown, both-shaped}
 use Rattle.scanning.specs.View.{AnyTasks, StandsAt, verdictAs}
 use Rattle.scanning.proofs.Places.{removed-at}
 
@@ -69,7 +70,7 @@ judged-there s x r e = ap (λ (q : RequestRule). verdictAs (s .tasks) q (s .stoc
 -- ---- joining and leaving
 
 abbrev queueing : Head → Waiters → Head
-queueing h w = record { fairness = h .fairness; closed = h .closed; stock = h .stock; waiters = w; reservation = h .reservation; tasks = h .tasks }
+queueing h w = headWith (h .stock) w (h .reservation) h
 
 pub joins-front : (b : Bool) (r : Waiters) (x : Slot) (q : List Slot) → b ≡ true → Holds r (x ∷ q) → Holds r (cond b (x ∷ q) (q ++ x ∷ []))
 joins-front b r x q e k = subst (λ (b : Bool). Holds r (cond b (x ∷ q) (q ++ x ∷ []))) (sym e) k
@@ -83,15 +84,7 @@ module _ (h : Head) (slots after : List ℕ) (x : Slot) (w : Waiters) (m : Marki
   queued-so : (q : List Slot) → Holds w q → AnyTasks (λ s. s ▷ withQueue q ▷ alterRequest x (marking m)) (queueing h w) after h slots
   queued-so q lo tasks s =
       record {
-        shaped =
-            record {
-              tasks = s .tasks;
-              waiters = lo .fits;
-              slot-words = k ∙ s .slot-words;
-              task-words = s .task-words;
-              slots-stand = e .stand (s .slots-stand);
-              tasks-stand = s .tasks-stand;
-            };
+        shaped = head-shaped h after tasks (slots-shown h slots tasks s after _ e k .shaped) (h .stock) w (h .reservation) (lo .fits);
         view =
             λ i.
             record {
@@ -165,21 +158,11 @@ module _ (h : Head) (slots later tasks awake : List ℕ) (x : Slot) (i : ℕ) (q
   queue-after : waitersOf w ≡ without x (waitersOf (h .waiters))
   queue-after = lo .view ∙ removed-at x i (waitersOf (h .waiters)) p
 
-  pub granted-so : Shows
-      (record { fairness = h .fairness; closed = h .closed; stock = h .stock - q .ask .asked; waiters = w; reservation = h .reservation; tasks = h .tasks })
-      later awake (grantQueued x (plainOf h slots tasks))
+  pub granted-so : Shows (headWith (h .stock - q .ask .asked) w (h .reservation) h) later awake (grantQueued x (plainOf h slots tasks))
   unfolding grantQueued
   granted-so =
       record {
-        shaped =
-            record {
-              tasks = s .tasks;
-              waiters = lo .fits;
-              slot-words = ks ∙ s .slot-words;
-              task-words = kt ∙ s .task-words;
-              slots-stand = es .stand (s .slots-stand);
-              tasks-stand = et .stand (s .tasks-stand);
-            };
+        shaped = head-shaped h later awake (both-shaped h slots tasks later awake s _ _ es ks et kt) (h .stock - q .ask .asked) w (h .reservation) (lo .fits);
         view =
             λ j.
             record {

@@ -16,7 +16,7 @@ ghost use Rattle.records.specs.View.{requestOf, Stands};
 ghost use Rattle.words.specs.View.{requestWords, taskWords, slotsOf, tasksOf};
 ghost use Rattle.head.specs.View.{plainOf, Shaped, Shows, Grants};
 ghost use Rattle.scanning.specs.View.{AnyTasks, StandsAt, verdictAs, frontAs};
-use head::Granted;
+use head::Granting;
 use head::Head;
 use queue::Waiters;
 use records::Marking;
@@ -117,7 +117,7 @@ pub fn unblock_waiters_from_front(
     slots: &mut [u32],
     tasks: &mut [u32],
     grants: &mut [u32],
-) -> Granted
+) -> Granting
     requires { ⌜ (Shaped h (now slots) (now tasks)) × (length (now grants) ≡ slotCount * 3) × (twice (waitersOf (h .waiters)) ≡ false) ⌝ }
     ensures { λ r. ⌜ Grants r (now (slots .exit)) (now (tasks .exit)) (now (grants .exit)) (scan (plainOf h (now (slots .entry)) (now (tasks .entry)))) ⌝ }
 {
@@ -146,7 +146,7 @@ pub fn unblock_waiters_from_front(
             }
         }
     }
-    Granted { head: now, count }
+    Granting { head: now, count }
 }
 
 // Whether the slot stands first.
@@ -198,7 +198,7 @@ pub fn remove_waiter(
     tasks: &mut [u32],
     grants: &mut [u32],
     x: Slot,
-) -> Granted
+) -> Granting
     requires { ⌜ (Shaped h (now slots) (now tasks)) × (length (now grants) ≡ slotCount * 3) × (twice (waitersOf (h .waiters)) ≡ false) ⌝ }
     ensures { λ r. ⌜ Grants r (now (slots .exit)) (now (tasks .exit)) (now (grants .exit)) (dropQueued x (plainOf h (now (slots .entry)) (now (tasks .entry)))) ⌝ }
 {
@@ -208,7 +208,7 @@ pub fn remove_waiter(
     if must_scan(left, slots, first) {
         return unblock_waiters_from_front(left, slots, tasks, grants);
     }
-    Granted {
+    Granting {
         head: left,
         count: 0,
     }

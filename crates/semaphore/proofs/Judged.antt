@@ -8,7 +8,7 @@ use Rattle.rules.proofs.Bools.{clash}
 use Rattle.state.specs.declared.BatchSemaphore.{BatchSemaphore}
 use Rattle.state.specs.declared.Stepped.{Stepped}
 use Rattle.state.specs.View.{Words}
-use Rattle.broken.specs.Broken.{isBroken, Judged}
+use Rattle.broken.specs.Broken.{Judged}
 use Rattle.broken.proofs.Unbroken.{fit-unbroken}
 use Rattle.stepping.specs.Contract.{Refuses, StepsOn}
 use Rattle.semaphore.specs.Contract.{Steps}

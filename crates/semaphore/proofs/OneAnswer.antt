@@ -16,7 +16,7 @@ use Rattle.state.specs.View.{Words, viewOf, outcomeOf}
 use Rattle.broken.specs.Broken.{isBroken}
 use Rattle.stepping.specs.Contract.{Refuses}
 use Rattle.semaphore.specs.Contract.{Steps}
-use Rattle.semaphore.proofs.Carried.{refused-outcome}
+use Rattle.stepping.proofs.Carried.{refused-outcome}
 
 -- what a step leaves: the struct, the words of the state, and those of the grants
 pub record SameLeft (r : Stepped) (v : Words) (hs : List ℕ) (q : Stepped) (u : Words) (is : List ℕ) : Type 0 where

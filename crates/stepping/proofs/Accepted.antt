@@ -12,6 +12,7 @@ use Rattle.splitting.specs.Kept.{Kept, keptStep}
 use Rattle.replies.specs.declared.Reply.{Reply}
 use Rattle.replies.specs.Answers.{answerOf}
 use Rattle.words.specs.View.{grantsOf}
+use Rattle.words.proofs.Grants.{no-grants}
 use Rattle.head.specs.declared.Answered.{Answered}
 use Rattle.head.specs.View.{Answers}
 use Rattle.batches.specs.declared.Batches.{Batches}
@@ -29,7 +30,6 @@ use Rattle.resting.proofs.Allowing.{has-slot}
 use Rattle.resting.proofs.Rested.{moves-so, rests-so, rests-answer}
 use Rattle.doing.specs.Effects.{Able}
 use Rattle.doing.proofs.Allowing.{able}
-use Rattle.doing.proofs.Altered.{no-grants}
 use Rattle.state.specs.declared.BatchSemaphore.{BatchSemaphore}
 use Rattle.state.specs.declared.Stepped.{Stepped}
 use Rattle.state.specs.View.{Words, words, plainIn, keptIn}

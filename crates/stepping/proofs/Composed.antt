@@ -24,8 +24,6 @@ use Rattle.splitting.specs.Fitness.{SoundPlain}
 use Rattle.splitting.proofs.Splitting.{refusal-whole}
 use Rattle.splitting.proofs.KeptSplit.{kept-fits, kept-accepted}
 use Rattle.splitting.proofs.Fitness.{sound-part}
-use Rattle.tables.proofs.Tables.{table-length}
-use Rattle.tables.specs.Table.{row}
 use Rattle.replies.specs.Answers.{answerOf}
 use Rattle.words.specs.View.{grantsOf}
 use Rattle.words.proofs.Tasks.{length-tasks}
@@ -35,16 +33,13 @@ use Rattle.head.specs.declared.Answered.{Answered}
 use Rattle.head.specs.View.{Answers}
 use Rattle.batches.specs.declared.Batches.{Batches}
 use Rattle.batches.specs.View.{standsIn}
-use Rattle.times.specs.View.{clocksOf, refusalKept, changeOf, Able, AbleAtRest, Shows}
+use Rattle.times.specs.View.{refusalKept, changeOf, Able, AbleAtRest, Shows}
+use Rattle.times.proofs.Clocks.{clocks-length}
 use Rattle.times.proofs.Told.{refusal-kept, able-accepted, counted, ungranted, able-at-rest}
 use Rattle.times.proofs.Public.{whole-step}
 use Rattle.state.specs.declared.BatchSemaphore.{BatchSemaphore}
 use Rattle.state.specs.declared.Stepped.{Stepped}
 use Rattle.state.specs.View.{Words, plainIn, keptIn, viewOf, outcomeOf, Fit}
-
-clocks-number : (n : ℕ) (xs : List ℕ) → length (clocksOf width n xs) ≡ n
-unfolding clocksOf
-clocks-number n xs = table-length (row width xs) [] n 0
 
 actor-below : (a : Step) (p : Plain) → W.refusal a p ≡ none → a .actor .0 < length (p .tasks)
 unfolding W.refusal
@@ -67,10 +62,10 @@ module _ (s : BatchSemaphore) (w : Words) (gs : List ℕ) (f : Fit s w gs) where
   k = keptIn s w
 
   tasks-room : length (p .tasks) ≤ length (k .clocks)
-  tasks-room = omega (arith, length-tasks (w .tasks) (s .head .tasks), clocks-number maxTasks (w .clocks), f .shaped .head .tasks)
+  tasks-room = omega (arith, length-tasks (w .tasks) (s .head .tasks), clocks-length width maxTasks (w .clocks), f .shaped .head .tasks)
 
   slots-room : length (p .slots) ≤ length (k .requests)
-  slots-room = omega (arith, length-slots (w .slots), clocks-number slotCount (w .makers))
+  slots-room = omega (arith, length-slots (w .slots), clocks-length width slotCount (w .makers))
 
   pub sound-here : SoundPlain p
   sound-here = sound-part p (timesKept p k) (f .sound)

@@ -125,7 +125,7 @@ fn carry_out(
     }
 }
 
-// A step that no refusal is met by. Most leave the head as it is, and then nothing by value is put together anew.
+// A step that no refusal is met by. Where it leaves the head as it is, nothing by value is put together anew.
 fn accept(
     s: BatchSemaphore,
     slots: &mut [u32],

@@ -7,7 +7,7 @@ use mathlib.Core.List.{List, [], _∷_, _++_}
 use mathlib.Core.Option.{none, some}
 use borrow.Author.Tests.{lt-ltb, le-ltb, eq-eqb, ne-eqb}
 use lib.Dec.{leb, ltb}
-use lib.ListN.{length, getD, set, drop, List·getD-eq-default}
+use lib.ListN.{getD, set, drop, List·getD-eq-default}
 use lib.Seq.{getD-set-same, set-out, getD-take, getD-drop}
 use Rattle.rules.specs.declared.TaskId.{TaskId}
 use Rattle.rules.specs.Sizes.{width, maxTasks, slotCount, largest}
@@ -27,13 +27,8 @@ use Rattle.batches.proofs.Setting.{stood-view, stood-formed}
 use Rattle.words.specs.declared.GrantWords.{GrantWords}
 use Rattle.tables.specs.Table.{table}
 use Rattle.words.specs.View.{grantWordsIn, grantsOf}
-use Rattle.times.specs.View.{clocksOf, clocksAt, clockIn, keptOf, Shows, Ticked, takenAs, slotMade, refusalKept}
-use Rattle.tables.proofs.Tables.{table-length}
-use Rattle.times.proofs.Clocks.{clock-read, clock-past}
-
-clocks-length : (w n : ℕ) (xs : List ℕ) → length (clocksOf w n xs) ≡ n
-unfolding clocksOf
-clocks-length w n xs = table-length (row w xs) (empty w) n 0
+use Rattle.times.specs.View.{clocksAt, clockIn, keptOf, Shows, Ticked, takenAs, slotMade, refusalKept}
+use Rattle.times.proofs.Clocks.{clocks-length, clock-read, clock-past}
 
 module _ (b : Batches) (sizes rows last makers clocks : List ℕ) (k : ℕ) (t : TaskId) where
   abbrev before : Kept

@@ -15,6 +15,10 @@ use Rattle.rules.specs.Sizes.{width, maxTasks, largest}
 use Rattle.times.specs.View.{clocksOf, clocksAt, clockIn, MayTick, Ticked}
 use Rattle.tables.proofs.Tables.{table-set, table-get, table-past, table-length}
 
+pub clocks-length : (w n : ℕ) (xs : List ℕ) → length (clocksOf w n xs) ≡ n
+unfolding clocksOf
+clocks-length w n xs = table-length (row w xs) (empty w) n 0
+
 module _ (w n i : ℕ) (xs : List ℕ) where
   pub clock-past : n ≤ i → getD (clocksOf w n xs) i (empty w) ≡ empty w
   unfolding clocksOf

@@ -42,7 +42,7 @@ fn refuse(h: Head, why: Refusal) -> Answered
     stay(h, reply)
 }
 
-// The effect of what a step comes to. Most leave the head as it is.
+// The effect of what a step comes to: at rest, or else by what moves.
 fn effect(
     h: Head,
     slots: &mut [u32],

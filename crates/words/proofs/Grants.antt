@@ -1,13 +1,12 @@
 -- Grants in their words: one more behind those that stay.
-use Prim.Native.Nat.{ℕ, zero, suc, _+_, _*_, _<_}
+use Prim.Native.Nat.{ℕ, _+_, _*_, _<_}
 use native.Mathlib.Nat.{zero-add}
 use native.Mathlib.Numerals.{add-one}
 use native.Mathlib.Omega.{arith}
-use mathlib.Core.Path.{_≡_, refl, sym, ap, _∙_}
-use mathlib.Core.Bool.{Bool, true, cond}
+use mathlib.Core.Path.{_≡_, refl, ap, _∙_}
+use mathlib.Core.Bool.{Bool, cond}
 use mathlib.Core.List.{List, [], _∷_, _++_}
 use borrow.Author.Tests.{lt-ltb}
-use lib.Dec.{ltb}
 use lib.ListN.{length, getD, set, length-set}
 use lib.Seq.{getD-set-same, getD-set-other}
 use Rattle.rules.specs.declared.Slot.{Slot}
@@ -18,6 +17,10 @@ use Rattle.tables.specs.Table.{table}
 use Rattle.tables.proofs.Tables.{table-more, table-length}
 use Rattle.words.specs.declared.GrantWords.{GrantWords}
 use Rattle.words.specs.View.{takerOf, grantOf, grantWordsIn, grantsOf}
+
+pub no-grants : (w : List ℕ) → grantsOf 0 w ≡ []
+unfolding grantsOf table
+no-grants w = refl
 
 slot-taker : (x : ℕ) → x < 256 → takerOf x ≡ BySlot (record { 0 = x })
 unfolding takerOf

@@ -3,20 +3,18 @@ use Prim.Native.Nat.{ℕ, suc, _+_, _*_, _≤_, _<_}
 use native.Mathlib.Numerals.{add-one}
 use native.Mathlib.Nat.{add-zero}
 use native.Mathlib.Omega.{arith}
-use mathlib.Core.Path.{_≡_, refl, sym, ap, _∙_}
-use mathlib.Core.Bool.{Bool, true, false, not, cond}
-use mathlib.Core.List.{List, [], _∷_}
+use mathlib.Core.Path.{_≡_, ap, _∙_}
+use mathlib.Core.List.{List, _∷_}
 use mathlib.Core.Option.{Option, none, some}
 use borrow.Author.Tests.{ne-eqb}
-use lib.Dec.{eqb}
-use lib.ListN.{length, getD, drop, drop-of-length-le}
+use lib.ListN.{getD, drop, drop-of-length-le}
 use lib.Seq.{drop-cons, getD-take, getD-drop}
 use Rattle.rules.specs.Sizes.{slotCount}
 use Rattle.splitting.specs.Plain.{Request as RequestRule}
 use Rattle.splitting.specs.Who.{lowestFree}
 use Rattle.tables.specs.Table.{row}
 use Rattle.records.specs.View.{requestOf}
-use Rattle.words.specs.View.{marked, requestWords, decoded, slotIn, slotsOf}
+use Rattle.words.specs.View.{requestWords, decoded, slotIn, slotsOf}
 use Rattle.words.proofs.Slots.{slot-there, length-slots}
 
 module _ (w : List ℕ) (i : ℕ) (inside : i < slotCount) where

@@ -1,12 +1,12 @@
 -- Requests in their slots: one read, one written, the others as they were.
-use Prim.Native.Nat.{ℕ, zero, suc, _+_, _*_, _≤_, _<_}
+use Prim.Native.Nat.{ℕ, _*_, _≤_, _<_}
 use native.Mathlib.Nat.{zero-add}
 use borrow.Author.Tests.{eqb-true, eqb-false}
 use native.Mathlib.Omega.{arith}
 use mathlib.Core.Path.{_≡_, refl, sym, ap, _∙_}
 use mathlib.Core.Bool.{Bool, true, false, not, _||_}
 use mathlib.Core.List.{List, [], _∷_}
-use mathlib.Core.Option.{Option, none, some, Option·getD, Option·map}
+use mathlib.Core.Option.{Option, none, Option·getD, Option·map}
 use lib.Dec.{eqb}
 use lib.ListN.{length, getD, set}
 use lib.Seq.{paste, set-out}
@@ -18,9 +18,9 @@ use Rattle.tables.proofs.Rows.{row-same, row-other}
 use Rattle.tables.proofs.Tables.{table-set, table-get, table-length, table-past}
 use Rattle.records.specs.declared.Request.{Request}
 use Rattle.records.specs.declared.Marking.{Marking}
-use Rattle.records.specs.View.{requestOf, seen, Stands, Changed, marking}
+use Rattle.records.specs.View.{seen, Stands, Changed, marking}
 use Rattle.records.proofs.Standing.{changed-seen}
-use Rattle.words.specs.View.{kindOf, marked, markWord, kindWord, isMark, isKind, requestWords, decoded, encoded, slotIn, slotsOf, altered, rowStands, SlotsStand, SlotsShow}
+use Rattle.words.specs.View.{marked, markWord, kindWord, requestWords, decoded, encoded, slotIn, slotsOf, altered, rowStands, SlotsStand, SlotsShow}
 use Rattle.words.proofs.Single.{mark-back, kind-back, mark-stands, kind-stands}
 
 -- ---- a row

@@ -4,7 +4,7 @@ use native.Mathlib.Nat.{zero-add}
 use borrow.Author.Tests.{eqb-true, eqb-false}
 use native.Mathlib.Omega.{arith}
 use mathlib.Core.Path.{_≡_, refl, sym, ap, _∙_}
-use mathlib.Core.Bool.{Bool, true, false, _&&_}
+use mathlib.Core.Bool.{Bool, true, false}
 use mathlib.Core.List.{List}
 use lib.Dec.{eqb}
 use lib.ListN.{length, getD, set, length-set}
@@ -16,7 +16,7 @@ use Rattle.splitting.specs.Plain.{Task as TaskRule, noTask, unblocked, wakened}
 use Rattle.tables.proofs.Tables.{table-set, table-get, table-length, table-past}
 use Rattle.records.specs.declared.Task.{Task}
 use Rattle.records.specs.View.{taskOf}
-use Rattle.words.specs.View.{stateOf, stateWord, marked, markWord, isState, isMark, taskWords, taskIn, tasksOf, taskStands, TasksStand, TasksShow}
+use Rattle.words.specs.View.{stateOf, stateWord, marked, markWord, taskWords, taskIn, tasksOf, taskStands, TasksStand, TasksShow}
 use Rattle.words.proofs.Single.{mark-back, state-back, mark-stands, state-stands}
 
 pub task-there : (w : List ℕ) (n t : ℕ) → t < n → getD (tasksOf n w) t noTask ≡ taskIn w t
@@ -30,6 +30,14 @@ task-past w n t l = table-past (taskIn w) noTask n t l
 pub length-tasks : (w : List ℕ) (n : ℕ) → length (tasksOf n w) ≡ n
 unfolding tasksOf
 length-tasks w n = table-length (taskIn w) noTask n 0
+
+-- no word written
+pub unchanged : (n : ℕ) (w : List ℕ) (ts : List TaskRule) → tasksOf n w ≡ ts → TasksShow n w w ts
+unchanged n w ts e = record { view = e; stand = λ h. h }
+
+-- the same tasks, said otherwise
+pub said : (n : ℕ) (after before : List ℕ) (ts us : List TaskRule) → TasksShow n after before ts → ts ≡ us → TasksShow n after before us
+said n after before ts us s e = record { view = s .view ∙ e; stand = s .stand }
 
 -- ---- writing
 module _ (w : List ℕ) (n t : ℕ) (s : TaskState) (m : Bool) (inside : t < n) (few : n ≤ maxTasks) (sized : length w ≡ maxTasks * taskWords) where

@@ -1,6 +1,5 @@
 -- Left, reserved and reblocked, then marked.
-use Rattle.doing.proofs.Polls.{left-there, reserves-so}
-use Rattle.doing.proofs.Altered.{other-shaped}
+use Rattle.doing.proofs.Polls.{other-shaped, left-there, reserves-so}
 use borrow.Author.Needs.{needs}
 use Rattle.doing.proofs.reserve.Statement.{statement}
 use Rattle.doing.proofs.reserve.Tie as tie

@@ -1,6 +1,5 @@
 -- Taken, left and reblocked, then marked and granted.
-use Rattle.doing.proofs.Polls.{left-there, taken-left}
-use Rattle.doing.proofs.Altered.{other-shaped}
+use Rattle.doing.proofs.Polls.{other-shaped, left-there, taken-left}
 use borrow.Author.Needs.{needs}
 use Rattle.doing.proofs.take_and_leave.Statement.{statement}
 use Rattle.doing.proofs.take_and_leave.Tie as tie
