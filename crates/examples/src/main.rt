@@ -1,10 +1,9 @@
 // Runs that no short script reaches; then each script that the arguments name, comparing what it prints with the text that stands in the
-// file behind it. With the one argument `steps` or `calls`: steps for the measurement of speed.
+// file behind it.
 ghost use Prim.Native.Nat.{_≤_};
 ghost use Rattle.io.specs.Counts.{Counts};
 use libc::STDOUT_FILENO;
 
-mod steps;
 mod trials;
 
 // The most that a script has here, and what it can print.
@@ -71,28 +70,12 @@ fn count() -> usize
     if n < 1000 { n } else { 1000 }
 }
 
-fn tell_all() {
+fn main() {
     trials::tell();
     let n = count();
     let mut i: usize = 1;
     while i + 1 < n {
         compare(i, i + 1);
         i += 2;
-    }
-}
-
-// Whether the first argument is `calls`.
-fn by_calls() -> bool {
-    let mut name = io::buffer();
-    let k = os::arg(1, &mut name);
-    check::same(&name[..k], b"calls")
-}
-
-// One argument alone asks for steps.
-fn main() {
-    if os::arg_count() == 2 {
-        steps::run_all(by_calls());
-    } else {
-        tell_all();
     }
 }

@@ -1,8 +1,8 @@
--- `examples::tell_all` is safe and ends: two arguments a turn.
+-- `examples::main` is safe and ends: two arguments a turn.
 use Prim.Native.Nat.{_-_, _≤_}
 use native.Mathlib.Omega.{arith}
-use Rattle.examples.proofs.tell_all.Statement.{statement}
-use Rattle.examples.proofs.tell_all.Tie as tie
+use Rattle.examples.proofs.main.Statement.{statement}
+use Rattle.examples.proofs.main.Tie as tie
 
 abbrev Inv-loop : tie.InvT-loop
 Inv-loop n i₀ i = (n ≤ 1000) × (i ≤ 1001)
@@ -40,8 +40,8 @@ loop-again c = (omega arith, omega arith)
 returns : tie.Need-returns Inv-loop μ-loop
 returns c = tt
 
-pub tell-all-spec : {M : Type 1} → statement M
-tell-all-spec =
+pub main-spec : {M : Type 1} → statement M
+main-spec =
     tie.close
     (tie.spec
     Inv-loop

@@ -1,6 +1,7 @@
 // Runs the steps that stand on standard input, in records of eight bytes, and prints a sum of the replies: our side of `bench/run`. The
-// first record is the start. All is read before the first step. Two ways: 14 tested once for the run, or by a public call for each step.
-ghost use Prim.Native.Nat.{_<_, _≤_};
+// first record is the start. All is read before the first step. Two ways: 14 tested once for the run, or by a public call for each step;
+// a program of its own for each, since a step that is called from one place alone is compiled into it.
+ghost use Prim.Native.Nat.{_+_, _<_, _≤_};
 ghost use lib.ListN.{length};
 ghost use Rattle.state.specs.View.{words, Fit};
 use replies::Reply;
@@ -23,11 +24,6 @@ fn wide(x: u8) -> u32
     ensures { λ r. ⌜ r < 256 ⌝ }
 {
     x as u32
-}
-
-// The byte at a place, 0 past the end.
-fn byte(src: &[u8], at: usize) -> u8 {
-    if at < src.len() { src[at] } else { 0 }
 }
 
 // A number of two bytes, the lower first.
@@ -55,13 +51,13 @@ fn act(kind: u8, a: u32, b: u32, slot: u8) -> Act {
 
 // The step in the record at a place.
 fn step_at(src: &[u8], at: usize) -> Step
-    requires { ⌜ at < 1048576 ⌝ }
+    requires { ⌜ (at < 1048576) × (at + 8 ≤ length (now src)) ⌝ }
 {
-    let kind = byte(src, at);
-    let actor = TaskId(byte(src, at + 1));
-    let low = byte(src, at + 2);
-    let a = number(low, byte(src, at + 3));
-    let b = number(byte(src, at + 4), byte(src, at + 5));
+    let kind = src[at];
+    let actor = TaskId(src[at + 1]);
+    let low = src[at + 2];
+    let a = number(low, src[at + 3]);
+    let b = number(src[at + 4], src[at + 5]);
     let act = act(kind, a, b, low);
     Step { actor, act }
 }
@@ -81,15 +77,17 @@ fn maker(kind: u8) -> Maker {
 }
 
 // The start in the first record.
-fn first(src: &[u8]) -> First {
-    let fairness = fairness(byte(src, 0));
-    let stock = number(byte(src, 4), byte(src, 5));
-    let maker = maker(byte(src, 1));
+fn first(src: &[u8]) -> First
+    requires { ⌜ 8 ≤ length (now src) ⌝ }
+{
+    let fairness = fairness(src[0]);
+    let stock = number(src[4], src[5]);
+    let maker = maker(src[1]);
     First {
         fairness,
         stock,
         maker,
-        tasks: wide(byte(src, 2)),
+        tasks: wide(src[2]),
     }
 }
 
@@ -132,7 +130,7 @@ fn run_steps(
     let mut s = start;
     let mut sum: u64 = 0;
     let mut at = RECORD;
-    while at < src.len() {
+    while at + RECORD <= src.len() {
         let a = step_at(src, at);
         at += RECORD;
         let r = stepping::step_on(
@@ -173,7 +171,7 @@ fn run_calls(
     let mut s = start;
     let mut sum: u64 = 0;
     let mut at = RECORD;
-    while at < src.len() {
+    while at + RECORD <= src.len() {
         let a = step_at(src, at);
         at += RECORD;
         let r = semaphore::step(
@@ -198,7 +196,7 @@ fn run_calls(
 
 // The sum of the records, from the state that the first starts with.
 fn run(src: &[u8], by_calls: bool) -> u64
-    requires { ⌜ length (now src) ≤ 1048576 ⌝ }
+    requires { ⌜ (8 ≤ length (now src)) × (length (now src) ≤ 1048576) ⌝ }
 {
     let mut slots = [0u32; 320];
     let mut tasks = [0u32; 32];
@@ -250,9 +248,13 @@ fn input() -> [u8; INPUT] {
     [0u8; INPUT]
 }
 
-// Runs them all, and prints the sum.
+// Runs them all, and prints the sum; without a start, 0.
 pub fn run_all(by_calls: bool) {
     let mut src = input();
     let n = io::read_full(libc::STDIN_FILENO, &mut src);
-    io::print_decimal(libc::STDOUT_FILENO, run(&src[..n], by_calls));
+    let mut sum: u64 = 0;
+    if RECORD <= n {
+        sum = run(&src[..n], by_calls);
+    }
+    io::print_decimal(libc::STDOUT_FILENO, sum);
 }

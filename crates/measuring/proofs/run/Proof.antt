@@ -1,11 +1,11 @@
--- `examples::steps::run`: refused or accepted, a start gives what every step may count on.
+-- `measuring::run`: refused or accepted, a start gives what every step may count on.
 use borrow.Author.Needs.{needs}
 use Rattle.trace.proofs.Firsts.{started-fit}
-use Rattle.examples.proofs.steps.run.Statement.{statement}
-use Rattle.examples.proofs.steps.run.Tie as tie
+use Rattle.measuring.proofs.run.Statement.{statement}
+use Rattle.measuring.proofs.run.Tie as tie
 
 first-requires : tie.Need-first-requires
-first-requires c κs = tt
+first-requires c κs = search needs
 
 start-requires : tie.Need-start-requires
 start-requires c κs = tt

@@ -1,22 +1,25 @@
--- `examples::steps::run_calls`: public calls count on nothing.
-use Prim.Native.Nat.{_-_}
+-- `measuring::run_calls`: public calls count on nothing.
+use Prim.Native.Nat.{_-_, _≤_}
 use native.Mathlib.Omega.{arith}
 use lib.ListN.{length}
 use borrow.Author.Needs.{needs}
-use Rattle.examples.proofs.steps.run_calls.Statement.{statement}
-use Rattle.examples.proofs.steps.run_calls.Tie as tie
+use Rattle.measuring.proofs.run_calls.Statement.{statement}
+use Rattle.measuring.proofs.run_calls.Tie as tie
 
 abbrev Inv-loop : tie.InvT-loop
-Inv-loop src slots₀ tasks₀ sizes₀ rows₀ last₀ makers₀ clocks₀ grants₀ s₀ sum₀ at₀ slots tasks sizes rows last makers clocks grants s sum at = Unit {0}
+Inv-loop src slots₀ tasks₀ sizes₀ rows₀ last₀ makers₀ clocks₀ grants₀ s₀ sum₀ at₀ slots tasks sizes rows last makers clocks grants s sum at = at ≤ 1048576
 
 abbrev μ-loop : tie.MeasureT-loop
 μ-loop src slots₀ tasks₀ sizes₀ rows₀ last₀ makers₀ clocks₀ grants₀ s₀ sum₀ at₀ slots tasks sizes rows last makers clocks grants s sum at = length src - at
 
 loop-holds : tie.Need-loop-holds Inv-loop μ-loop
-loop-holds c = tt
+loop-holds c = omega arith
+
+add-loop : tie.Need-add-loop Inv-loop μ-loop
+add-loop c = search needs
 
 step-at-requires : tie.Need-step-at-requires Inv-loop μ-loop
-step-at-requires c κs = search needs
+step-at-requires c κs = (search needs, search needs)
 
 add-at : tie.Need-add-at Inv-loop μ-loop
 add-at c = search needs
@@ -32,10 +35,16 @@ loop-less c =
     let lent = c .before .before .before in
     let half = lent .before .before .before .before in
     let none = half .before .before .before in
-    omega (arith, none .before .before .loop-test .taken)
+    let turn = none .before .before in
+    omega (arith, turn .loop-test .taken)
 
 loop-again : tie.Need-loop-again Inv-loop μ-loop
-loop-again c = tt
+loop-again c =
+    let lent = c .before .before .before in
+    let half = lent .before .before .before .before in
+    let none = half .before .before .before in
+    let turn = none .before .before in
+    omega (arith, turn .loop-test .taken, turn .before .before .before .pre)
 
 returns : tie.Need-returns Inv-loop μ-loop
 returns c = tt
@@ -47,6 +56,7 @@ run-calls-spec =
     Inv-loop
     μ-loop
     loop-holds
+    add-loop
     step-at-requires
     add-at
     step-requires
