@@ -1,8 +1,11 @@
 -- The words of one request: each answer, from the tests that led to it.
 use Prim.Native.Nat.{ℕ, _≤_, _<_}
+use native.Mathlib.Decide.{decLt}
+use native.Mathlib.Omega.{arith}
 use mathlib.Core.Path.{_≡_, _∙_}
 use mathlib.Core.Bool.{Bool, true, false, cond, not, _&&_, _||_}
 use borrow.Author.Tests.{lt-ltb, le-ltb, eq-eqb, ne-eqb}
+use lib.Bits.{bitOr, or-add-and, and-le-l, and-le-r}
 use lib.Dec.{leb, ltb, eqb}
 use Rattle.rules.specs.Refusals.{badReserving}
 use Rattle.words.specs.View.{marked}
@@ -40,15 +43,17 @@ module _ (n a q h d t : ℕ) where
     named-unmarked e = rw (ne-eqb a 0 ha, ne-eqb q 1 e)
 
     module _ (hq : q ≡ 1) where
-      pub named-holding : (h ≡ 0 → ⊥) → true ≡ named
-      named-holding e = rw (ne-eqb a 0 ha, eq-eqb q 1 hq, ne-eqb h 0 e)
+      -- one of two marks, or neither, by their bits together
+      pub named-done : (bitOr h d ≡ 0 → ⊥) → true ≡ named
+      named-done e =
+          elim (decLt 0 h) [
+            | yes l ↦ rw (ne-eqb a 0 ha, eq-eqb q 1 hq, ne-eqb h 0 (λ z. omega arith))
+            | no l ↦ rw (ne-eqb a 0 ha, eq-eqb q 1 hq, eq-eqb h 0 (omega arith), ne-eqb d 0 (λ z. e (omega (arith, or-add-and h d))))
+          ]
 
-      module _ (hh : h ≡ 0) where
-        pub named-completed : (d ≡ 0 → ⊥) → true ≡ named
-        named-completed e = rw (ne-eqb a 0 ha, eq-eqb q 1 hq, eq-eqb h 0 hh, ne-eqb d 0 e)
-
-        pub named-else : d ≡ 0 → leb n t ≡ named
-        named-else e = rw (ne-eqb a 0 ha, eq-eqb q 1 hq, eq-eqb h 0 hh, eq-eqb d 0 e)
+      pub named-else : bitOr h d ≡ 0 → leb n t ≡ named
+      named-else e =
+          rw (ne-eqb a 0 ha, eq-eqb q 1 hq, eq-eqb h 0 (omega (arith, or-add-and h d, and-le-r h d)), eq-eqb d 0 (omega (arith, or-add-and h d, and-le-l h d)))
 
 module _ (q h d : ℕ) where
   abbrev other : Bool

@@ -64,10 +64,7 @@ fn named_is_wrong(slots: &[u32], b: usize, tasks: u32) -> bool
     if slots[b + 6] != 1 {
         return true;
     }
-    if slots[b + 7] != 0 {
-        return true;
-    }
-    if slots[b + 8] != 0 {
+    if slots[b + 7] | slots[b + 8] != 0 {
         return true;
     }
     tasks <= slots[b + 5]

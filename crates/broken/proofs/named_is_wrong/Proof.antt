@@ -1,4 +1,4 @@
-use Rattle.broken.proofs.Requests.{named-asks, named-unmarked, named-holding, named-completed, named-else}
+use Rattle.broken.proofs.Requests.{named-asks, named-unmarked, named-done, named-else}
 use borrow.Author.Needs.{needs}
 use Rattle.broken.proofs.named_is_wrong.Statement.{statement}
 use Rattle.broken.proofs.named_is_wrong.Tie as tie
@@ -36,20 +36,17 @@ mul-if3 c = search needs
 shared-slice-read-if3 : tie.Need-shared-slice-read-if3
 shared-slice-read-if3 c = search needs
 
+add-if3-2 : tie.Need-add-if3-2
+add-if3-2 c = search needs
+
+mul-if3-2 : tie.Need-mul-if3-2
+mul-if3-2 c = search needs
+
+shared-slice-read-if3-2 : tie.Need-shared-slice-read-if3-2
+shared-slice-read-if3-2 c = search needs
+
 returns-3 : tie.Need-returns-3
-returns-3 c = search (named-holding, needs)
-
-add-if4 : tie.Need-add-if4
-add-if4 c = search needs
-
-mul-if4 : tie.Need-mul-if4
-mul-if4 c = search needs
-
-shared-slice-read-if4 : tie.Need-shared-slice-read-if4
-shared-slice-read-if4 c = search needs
-
-returns-4 : tie.Need-returns-4
-returns-4 c = search (named-completed, needs)
+returns-3 c = search (named-done, needs)
 
 add-result : tie.Need-add-result
 add-result c = search needs
@@ -60,8 +57,8 @@ mul-result c = search needs
 shared-slice-read-result : tie.Need-shared-slice-read-result
 shared-slice-read-result c = search needs
 
-returns-5 : tie.Need-returns-5
-returns-5 c = search (named-else, needs)
+returns-4 : tie.Need-returns-4
+returns-4 c = search (named-else, needs)
 
 pub named-is-wrong-spec : {M : Type 1} → statement M
 named-is-wrong-spec =
@@ -78,12 +75,11 @@ named-is-wrong-spec =
     add-if3
     mul-if3
     shared-slice-read-if3
+    add-if3-2
+    mul-if3-2
+    shared-slice-read-if3-2
     returns-3
-    add-if4
-    mul-if4
-    shared-slice-read-if4
-    returns-4
     add-result
     mul-result
     shared-slice-read-result
-    returns-5)
+    returns-4)
