@@ -1,4 +1,5 @@
-// The calls with all words by value: for trying wrong answers against the calls' contracts, and for whoever wants no lending.
+// The calls with all words by value: what tries wrong answers against their contracts is checked many times, and a function that is lent
+// eight arrays takes several seconds to check, where one that has them by value takes half of one.
 ghost use mathlib.Core.Path.{_≡_};
 ghost use mathlib.Core.Option.{none, some};
 ghost use Rattle.rules.specs.Runs.{start};

@@ -239,7 +239,7 @@ fn begin_unmade(
     }
 }
 
-// A fresh state that a task makes: its batches are set up with the maker's clock.
+// A fresh state that a task makes: its batches are set up with the maker's clock. Refused: 12.
 pub fn new(
     fairness: Fairness,
     stock: u32,
@@ -275,7 +275,7 @@ pub fn new(
     )
 }
 
-// A fresh state that no task makes: its batches are not set up.
+// A fresh state that no task makes: its batches are not set up. Refused: 12.
 pub fn const_new(
     fairness: Fairness,
     stock: u32,

@@ -1,21 +1,11 @@
-// The contract of each public call with the call as its body, all words by value: a place to try wrong answers as wrong code. Each edit in
-// must-fail/ answers wrongly, and the contract rules it out.
-ghost use mathlib.Core.Path.{_≡_};
-ghost use mathlib.Core.Option.{none, some};
+// The contract of the step and of each call with that call as its body, all words by value: a place to try wrong answers as wrong code.
+// Each edit in must-fail/ answers wrongly, and the contract rules it out.
 ghost use Rattle.rules.specs.declared.Act.the-variants.{Acquire, AcquireBypassable, AcquireReserving, Upgrade, Poll, Try, TryUpgrade, Release, Drop, Close, Sleep, Finish};
-ghost use Rattle.rules.specs.Runs.{start};
 ghost use Rattle.rules.specs.Steps.{_does_};
-ghost use Rattle.fresh.specs.Starting.{Gives};
-ghost use Rattle.points.specs.Told.{toldBy, answerTo};
-ghost use Rattle.trace.specs.Running.{Prints};
-ghost use Rattle.arrays.specs.Arrays.{wordsIn, Comes};
+ghost use Rattle.arrays.specs.Arrays.{Comes};
 use arrays::Arrays;
-use arrays::Begun;
 use arrays::Came;
-use points::Told;
 use rules::Act;
-use rules::Fairness;
-use rules::Question;
 use rules::Slot;
 use rules::Step;
 use rules::TaskId;
@@ -97,28 +87,4 @@ pub fn finish(s: BatchSemaphore, w: Arrays, me: TaskId) -> Came
     ensures { λ r. ⌜ Comes s w (me does Finish) r ⌝ }
 {
     arrays::act(s, w, me, Act::Finish)
-}
-
-pub fn point(s: BatchSemaphore, w: Arrays, me: TaskId, q: Question) -> Told
-    ensures { λ r. ⌜ toldBy r ≡ answerTo s (wordsIn w) (w .grants) me q ⌝ }
-{
-    arrays::point(s, w, me, q)
-}
-
-pub fn new(fairness: Fairness, stock: u32, count: u32, starts: &[u32], maker: TaskId) -> Begun
-    ensures { λ r. ⌜ Gives (r .started) (wordsIn (r .arrays)) (start (record { fairness = fairness; stock = stock; tasks = count; clocks = now (starts .entry); maker = some maker })) ⌝ }
-{
-    arrays::new(fairness, stock, count, starts, maker)
-}
-
-pub fn const_new(fairness: Fairness, stock: u32, count: u32, starts: &[u32]) -> Begun
-    ensures { λ r. ⌜ Gives (r .started) (wordsIn (r .arrays)) (start (record { fairness = fairness; stock = stock; tasks = count; clocks = now (starts .entry); maker = none })) ⌝ }
-{
-    arrays::const_new(fairness, stock, count, starts)
-}
-
-pub fn run(script: &[u8], out: &mut [u8]) -> usize
-    ensures { λ r. ⌜ Prints (now (script .entry)) (now (out .entry)) (now (out .exit)) r ⌝ }
-{
-    trace::run(script, out)
 }
