@@ -38,7 +38,7 @@ use denote.Triple.Walked.{says, Stays, stay-ref, walkOf, AllGo, goes-ref, Walks,
 use denote.Triple.Clauses.{Clauses, closing, ensured, lasts}
 use Rattle.splitting.specs.Plain.{Task as RuleTask}
 use Rattle.records.specs.declared.Task.{Task}
-use Rattle.records.specs.View.{taskOf}
+use Rattle.records.specs.View.{taskSeen}
 use Rattle.records.proofs.Task as T
 use Rattle.records.proofs.Task.Laws as T′
 use Rattle.records.proofs.Task.block as value
@@ -58,7 +58,7 @@ thin g = record {
 
 -- the record h became r, by the rule f
 abbrev pub Became : (RuleTask → RuleTask) → Task → Task → Type 0
-Became f h r = taskOf r ≡ f (taskOf h)
+Became f h r = taskSeen r ≡ f (taskSeen h)
 
 module _ (f : RuleTask → RuleTask) {M : Type 1} (𝓤 : URA M) where
   abbrev pub by-value : Clauses 𝓤 value.ended

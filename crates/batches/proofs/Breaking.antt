@@ -10,7 +10,7 @@ use lib.ListN.{length}
 use Rattle.rules.specs.Sizes.{batchCount}
 use Rattle.rules.specs.Clock.{Clock}
 use Rattle.rules.specs.State.{Batch, Permits}
-use Rattle.rules.specs.Broken.{anyOf, standingBatches, isEmptyBatch, total, differs}
+use Rattle.rules.specs.Broken.{anyOf, setUpBatches, isEmptyBatch, total, differs}
 use Rattle.rules.specs.Sound.{SoundPermits}
 use Rattle.rules.proofs.Bools.{neither}
 use Rattle.batches.specs.declared.Batches.{Batches}
@@ -45,14 +45,14 @@ module _ (b : Batches) (k : ℕ) (sizes : List ℕ) where
 
 -- the clauses of batches that are not bad
 record Good (v : Permits) : Type 0 where
-  pub few : ltb batchCount (length (standingBatches (v .batches))) ≡ false
-  pub sizes : anyOf isEmptyBatch (standingBatches (v .batches)) ≡ false
+  pub few : ltb batchCount (length (setUpBatches (v .batches))) ≡ false
+  pub sizes : anyOf isEmptyBatch (setUpBatches (v .batches)) ≡ false
   pub sum : differs (v .stock) (v .batches) ≡ false
 
 good : (v : Permits) → badBatches v ≡ false → Good v
 good v e =
     let s = neither _ (differs (v .stock) (v .batches)) e in
-    let n = neither _ (anyOf isEmptyBatch (standingBatches (v .batches))) (s .0) in
+    let n = neither _ (anyOf isEmptyBatch (setUpBatches (v .batches))) (s .0) in
     record { few = n .0; sizes = n .1; sum = s .1 }
 
 -- batches that are not bad add up
@@ -60,8 +60,8 @@ pub adds-up-sound : (v : Permits) → badBatches v ≡ false → SoundPermits v
 adds-up-sound v e bs h =
     let g = good v e in
     record {
-      room = ltb-false batchCount (length bs) (subst (λ (o : Option (List Batch)). ltb batchCount (length (standingBatches o)) ≡ false) h (g .few));
-      sizes = subst (λ (o : Option (List Batch)). anyOf isEmptyBatch (standingBatches o) ≡ false) h (g .sizes);
+      room = ltb-false batchCount (length bs) (subst (λ (o : Option (List Batch)). ltb batchCount (length (setUpBatches o)) ≡ false) h (g .few));
+      sizes = subst (λ (o : Option (List Batch)). anyOf isEmptyBatch (setUpBatches o) ≡ false) h (g .sizes);
       sum = eqb-true (total bs) (v .stock) (not-false _ (subst (λ (o : Option (List Batch)). differs (v .stock) o ≡ false) h (g .sum)));
     }
 

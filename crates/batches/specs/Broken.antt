@@ -8,7 +8,7 @@ use lib.ListN.{length}
 use Rattle.rules.specs.Sizes.{batchCount}
 use Rattle.rules.specs.Clock.{Clock}
 use Rattle.rules.specs.State.{Permits}
-use Rattle.rules.specs.Broken.{anyOf, standingBatches, isEmptyBatch, differs}
+use Rattle.rules.specs.Broken.{anyOf, setUpBatches, isEmptyBatch, differs}
 use Rattle.batches.specs.declared.Batches.{Batches}
 use Rattle.batches.specs.View.{standsIn}
 
@@ -21,8 +21,8 @@ headBeyond b = b .ready && leb batchCount (b .«permit_clocks» .head)
 
 abbrev pub badBatches : Permits → Bool
 badBatches v =
-    ltb batchCount (length (standingBatches (v .batches)))
-    || anyOf isEmptyBatch (standingBatches (v .batches)) || differs (v .stock) (v .batches)
+    ltb batchCount (length (setUpBatches (v .batches)))
+    || anyOf isEmptyBatch (setUpBatches (v .batches)) || differs (v .stock) (v .batches)
 
 -- a ring, and the permits that it stands for
 unfoldable pub brokenBatches : Batches → Permits → Bool

@@ -20,12 +20,12 @@ use Rattle.splitting.specs.Who.{tooMany, givesBack, grounds}
 use Rattle.replies.specs.declared.Check.{Check}
 use Rattle.records.specs.declared.Task.{Task}
 use Rattle.records.specs.declared.Request.{Request}
-use Rattle.records.specs.View.{taskOf, requestOf, Stands}
+use Rattle.records.specs.View.{taskSeen, requestOf, Stands}
 use Rattle.words.specs.View.{tasksOf}
 use Rattle.words.proofs.Tasks.{length-tasks}
 use Rattle.head.specs.declared.Head.{Head}
 use Rattle.head.specs.View.{plainOf}
-use Rattle.planning.specs.Plans.{Says, asksNothing}
+use Rattle.planning.specs.Plans.{Says, pollAsksNothing}
 
 -- a test that is the same
 pub the-same : {b d v : Bool} → b ≡ d → b ≡ v → d ≡ v
@@ -38,7 +38,7 @@ is-past n t w l = rw (length-tasks w n) (le-leb n t l)
 pub is-within : (n t : ℕ) (w : List ℕ) → t < n → leb (length (tasksOf n w)) t ≡ false
 is-within n t w l = rw (length-tasks w n) (lt-leb n t l)
 
-pub runs-read : (n t : ℕ) (w : List ℕ) (a : Task) (b v : Bool) → taskOf a ≡ getD (tasksOf n w) t noTask → b ≡ isRunnable (a .state) → not b ≡ v
+pub runs-read : (n t : ℕ) (w : List ℕ) (a : Task) (b v : Bool) → taskSeen a ≡ getD (tasksOf n w) t noTask → b ≡ isRunnable (a .state) → not b ≡ v
     → not (isRunnable (getD (tasksOf n w) t noTask .state)) ≡ v
 runs-read n t w a b v e eb k = ap (λ (x : TaskRule). not (isRunnable (x .state))) (sym e) ∙ ap not (sym eb) ∙ k
 
@@ -58,26 +58,26 @@ module _ (r : Request) (o : Option RequestRule) (s : Stands r o) (v : Bool) wher
   completed-read t = ap (λ (q : RequestRule). q .completed) (sym (s .view)) ∙ t
 
   -- 5
-  pub nothing-read : (b closed : Bool) → b ≡ asksNothing (requestOf r) closed → b ≡ v → asksNothing (Option·getD o noRequest) closed ≡ v
-  nothing-read b closed e t = ap (λ (q : RequestRule). asksNothing q closed) (sym (s .view)) ∙ sym e ∙ t
+  pub nothing-read : (b closed : Bool) → b ≡ pollAsksNothing (requestOf r) closed → b ≡ v → pollAsksNothing (Option·getD o noRequest) closed ≡ v
+  nothing-read b closed e t = ap (λ (q : RequestRule). pollAsksNothing q closed) (sym (s .view)) ∙ sym e ∙ t
 
 -- 5: reserving, asking for some, holding, closed
 module _ (r : Request) (closed : Bool) where
-  pub reserving-asks : r .ask .reserving ≡ true → false ≡ asksNothing (requestOf r) closed
+  pub reserving-asks : r .ask .reserving ≡ true → false ≡ pollAsksNothing (requestOf r) closed
   reserving-asks v = rw v
 
   module _ (v : r .ask .reserving ≡ false) where
-    pub count-asks : 0 < r .ask .asked → false ≡ asksNothing (requestOf r) closed
+    pub count-asks : 0 < r .ask .asked → false ≡ pollAsksNothing (requestOf r) closed
     count-asks l = rw (v, not-zero (r .ask .asked) l)
 
     module _ (l : r .ask .asked ≤ 0) where
-      of-nothing : asksNothing (requestOf r) closed ≡ not (r .holding || closed)
+      of-nothing : pollAsksNothing (requestOf r) closed ≡ not (r .holding || closed)
       of-nothing = rw (v, eq-eqb (r .ask .asked) 0 (omega arith))
 
-      pub holding-asks : r .holding ≡ true → false ≡ asksNothing (requestOf r) closed
+      pub holding-asks : r .holding ≡ true → false ≡ pollAsksNothing (requestOf r) closed
       holding-asks h = sym (of-nothing ∙ rw h)
 
-      pub else-closed : r .holding ≡ false → not closed ≡ asksNothing (requestOf r) closed
+      pub else-closed : r .holding ≡ false → not closed ≡ pollAsksNothing (requestOf r) closed
       else-closed h = sym (of-nothing ∙ rw h)
 
 -- 10: what is left up to m, against n

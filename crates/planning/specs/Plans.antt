@@ -25,8 +25,8 @@ abbrev pub actorGrounds : TaskId → Plain → List Ground
 actorGrounds t s = 1 if noSuchTask t s ∷ 2 if notRunnable t s ∷ []
 
 -- a plain ask of 0, neither holding nor closed
-abbrev pub asksNothing : Request → Bool → Bool
-asksNothing r closed = not (r .ask .reserving) && eqb (r .ask .asked) 0 && not (r .holding || closed)
+abbrev pub pollAsksNothing : Request → Bool → Bool
+pollAsksNothing r closed = not (r .ask .reserving) && eqb (r .ask .asked) 0 && not (r .holding || closed)
 
 -- which ground is given, how many permits come back, whether the actor would tick, and what the step comes to
 pub record Plans (r : Plan) (gs : List Ground) (n : ℕ) (b : Bool) (c : Choice) : Type 0 where

@@ -20,7 +20,7 @@ ghost use Rattle.records.specs.View.{requestOf, Stands};
 ghost use Rattle.words.specs.View.{requestWords, taskWords, slotsOf};
 ghost use Rattle.head.specs.View.{plainOf};
 ghost use Rattle.choosing.specs.declared.Choice.the-variants.{Makes, Tries};
-ghost use Rattle.planning.specs.Plans.{Says, actorGrounds, asksNothing, Plans, Planned};
+ghost use Rattle.planning.specs.Plans.{Says, actorGrounds, pollAsksNothing, Plans, Planned};
 use choosing::Choice;
 use head::Head;
 use records::Request;
@@ -46,7 +46,7 @@ const LARGEST: u32 = 4_294_967_295;
 // ---- grounds
 // 5: a plain ask of 0, neither holding nor closed.
 fn polls_nothing(r: Request, closed: bool) -> bool
-    ensures { λ b. ⌜ b ≡ asksNothing (requestOf r) closed ⌝ }
+    ensures { λ b. ⌜ b ≡ pollAsksNothing (requestOf r) closed ⌝ }
 {
     if r.ask.reserving {
         return false;

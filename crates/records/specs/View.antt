@@ -8,8 +8,8 @@ use Rattle.records.specs.declared.Request.{Request}
 use Rattle.records.specs.declared.Marking.{Marking}
 use Rattle.records.specs.declared.Marking.the-variants.{Joins, Leaves, IsGranted, PollsGranted, PollsClosed, PollsPending}
 
-abbrev pub taskOf : Task → TaskRule
-taskOf a = record { state = a .state; woken = a .woken }
+abbrev pub taskSeen : Task → TaskRule
+taskSeen a = record { state = a .state; woken = a .woken }
 
 abbrev pub requestOf : Request → RequestRule
 requestOf r = record { ask = r .ask; task = record { 0 = r .task }; queued = r .queued; holding = r .holding; completed = r .completed; polled = r .polled }

@@ -7,7 +7,7 @@ ghost use Rattle.rules.specs.Task.{isRunnable, isFinished, roused};
 ghost use Rattle.rules.specs.Request.{isBypassable, isFront, plainAsk, reservingAsk};
 ghost use Rattle.rules.specs.Steps.{upgradeAsk};
 ghost use Rattle.splitting.specs.Plain.{noTask, blocked, unblocked, wakened, slept, finished, unpolled, queuedAs, held, polledGranted, polledClosed, polledPending};
-ghost use Rattle.records.specs.View.{taskOf, seen, Stands, Changed, marking};
+ghost use Rattle.records.specs.View.{taskSeen, seen, Stands, Changed, marking};
 use rules::Ask;
 use rules::Priority;
 use rules::TaskId;
@@ -69,7 +69,7 @@ fn rouse(s: TaskState) -> TaskState
 impl Task {
     // What stands where no task does: Runnable and unwoken.
     pub fn none() -> Task
-        ensures { λ r. ⌜ taskOf r ≡ noTask ⌝ }
+        ensures { λ r. ⌜ taskSeen r ≡ noTask ⌝ }
     {
         Task {
             state: TaskState::Runnable,
@@ -92,7 +92,7 @@ impl Task {
     }
 
     pub fn block(self) -> Task
-        ensures { λ r. ⌜ taskOf r ≡ blocked (taskOf self) ⌝ }
+        ensures { λ r. ⌜ taskSeen r ≡ blocked (taskSeen self) ⌝ }
     {
         Task {
             state: TaskState::Blocked,
@@ -101,7 +101,7 @@ impl Task {
     }
 
     pub fn unblock(self) -> Task
-        ensures { λ r. ⌜ taskOf r ≡ unblocked (taskOf self) ⌝ }
+        ensures { λ r. ⌜ taskSeen r ≡ unblocked (taskSeen self) ⌝ }
     {
         Task {
             state: TaskState::Runnable,
@@ -110,7 +110,7 @@ impl Task {
     }
 
     pub fn finish(self) -> Task
-        ensures { λ r. ⌜ taskOf r ≡ finished (taskOf self) ⌝ }
+        ensures { λ r. ⌜ taskSeen r ≡ finished (taskSeen self) ⌝ }
     {
         Task {
             state: TaskState::Finished,
@@ -119,7 +119,7 @@ impl Task {
     }
 
     pub fn sleep_unless_woken(self) -> Task
-        ensures { λ r. ⌜ taskOf r ≡ slept (taskOf self) ⌝ }
+        ensures { λ r. ⌜ taskSeen r ≡ slept (taskSeen self) ⌝ }
     {
         let state = self.state;
         if self.woken {
@@ -135,7 +135,7 @@ impl Task {
     }
 
     pub fn wake(self) -> Task
-        ensures { λ r. ⌜ taskOf r ≡ wakened (taskOf self) ⌝ }
+        ensures { λ r. ⌜ taskSeen r ≡ wakened (taskSeen self) ⌝ }
     {
         let old = self.state;
         let state = rouse(old);
@@ -248,7 +248,7 @@ impl Request {
     }
 
     // The request, if it is in use; else none.
-    pub fn standing(self) -> Request
+    pub fn used_or_none(self) -> Request
         ensures { λ r. ⌜ Stands r (seen self) ⌝ }
     {
         if self.used {

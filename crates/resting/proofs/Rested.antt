@@ -24,7 +24,7 @@ use Rattle.replies.specs.Answers.{answerOf}
 use Rattle.records.specs.declared.Request.{Request}
 use Rattle.records.specs.declared.Task.{Task}
 use Rattle.records.specs.declared.Marking.the-variants.{PollsGranted, PollsClosed, PollsPending}
-use Rattle.records.specs.View.{seen, taskOf}
+use Rattle.records.specs.View.{seen, taskSeen}
 use Rattle.words.specs.View.{slotsOf, tasksOf, SlotsShow, TasksShow}
 use Rattle.words.proofs.Grants.{no-grants}
 use Rattle.head.specs.declared.Head.{Head}
@@ -134,19 +134,19 @@ module _ (t : TaskId) (x : Slot) (n : ℕ) (d : Dropping) (ss : List ℕ) where
   drops-on k e f = moves-on t (Drops x n d) ss (ap dropMoves e ∙ f)
 
 -- ---- a task
-module _ (t : TaskId) (n : ℕ) (ts ts′ : List ℕ) (a b : Task) (l : length ts′ ≡ length ts) (read : taskOf a ≡ getD (tasksOf n ts) (t .0) noTask)
-    (written : TasksShow n ts′ ts (set (tasksOf n ts) (t .0) (taskOf b))) where
-  task-so : (c : Choice) (f : TaskRule → TaskRule) → taskOf b ≡ f (taskOf a) → movesIn c ≡ false → ((p : Plain) → quiet (answerOf Done) (alterTask t f p) ≡ effectBy t c p) → TasksRest t c n (Rests Done) ts′ ts
+module _ (t : TaskId) (n : ℕ) (ts ts′ : List ℕ) (a b : Task) (l : length ts′ ≡ length ts) (read : taskSeen a ≡ getD (tasksOf n ts) (t .0) noTask)
+    (written : TasksShow n ts′ ts (set (tasksOf n ts) (t .0) (taskSeen b))) where
+  task-so : (c : Choice) (f : TaskRule → TaskRule) → taskSeen b ≡ f (taskSeen a) → movesIn c ≡ false → ((p : Plain) → quiet (answerOf Done) (alterTask t f p) ≡ effectBy t c p) → TasksRest t c n (Rests Done) ts′ ts
   task-so c f e m k =
       tasks-rest t c Done _ refl m n ts ts′ (set (tasksOf n ts) (t .0) (f (getD (tasksOf n ts) (t .0) noTask)))
       (record { view = written .view ∙ ap (λ (z : TaskRule). set (tasksOf n ts) (t .0) z) (e ∙ ap f read); stand = written .stand }) l
       (λ h ss q. rw (← q) (k (plainOf h ss ts)))
 
-  pub sleeps-so : taskOf b ≡ slept (taskOf a) → TasksRest t Sleeps n (Rests Done) ts′ ts
+  pub sleeps-so : taskSeen b ≡ slept (taskSeen a) → TasksRest t Sleeps n (Rests Done) ts′ ts
   unfolding effectBy
   sleeps-so e = task-so Sleeps slept e refl (λ p. refl)
 
-  pub finishes-so : taskOf b ≡ finished (taskOf a) → TasksRest t Finishes n (Rests Done) ts′ ts
+  pub finishes-so : taskSeen b ≡ finished (taskSeen a) → TasksRest t Finishes n (Rests Done) ts′ ts
   unfolding effectBy
   finishes-so e = task-so Finishes finished e refl (λ p. refl)
 

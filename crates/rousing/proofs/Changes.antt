@@ -13,7 +13,7 @@ use Rattle.rules.specs.Task.{isFinished}
 use Rattle.splitting.specs.Plain.{Task, noTask, blocked, unblocked, wakened, Request}
 use Rattle.records.specs.declared.Task.{Task as TaskRead}
 use Rattle.records.specs.declared.Request.{Request as RequestRead}
-use Rattle.records.specs.View.{taskOf, requestOf, Stands}
+use Rattle.records.specs.View.{taskSeen, requestOf, Stands}
 use Rattle.words.specs.View.{slotsOf, tasksOf, TasksShow}
 use Rattle.words.proofs.Tasks.{unchanged, said}
 use Rattle.rousing.specs.declared.Change.{Change}
@@ -67,7 +67,7 @@ module _ (k : Change) (ss : List ℕ) (x : Slot) (r : RequestRead) (s : Stands r
   pub not-concerned : not b ≡ true → Meant w
   not-concerned e = let f : concerns k (requestOf r) ≡ false = sym eb ∙ not-true b e in unchanged n w _ (by-request ts (rw f))
 
-  module _ (e : not b ≡ false) (a : TaskRead) (ea : taskOf a ≡ getD ts (r .task) noTask) (c : Bool) (ec : c ≡ isFinished (a .state)) where
+  module _ (e : not b ≡ false) (a : TaskRead) (ea : taskSeen a ≡ getD ts (r .task) noTask) (c : Bool) (ec : c ≡ isFinished (a .state)) where
     concerned : concerns k (requestOf r) ≡ true
     concerned = sym eb ∙ not-false b e
 
@@ -77,7 +77,7 @@ module _ (k : Change) (ss : List ℕ) (x : Slot) (r : RequestRead) (s : Stands r
     pub is-finished : c ≡ true → Meant w
     is-finished f = unchanged n w _ (by-request ts (rw (concerned, ended, f)))
 
-    pub is-changed : c ≡ false → (d : TaskRead) → taskOf d ≡ changeOf k (taskOf a) → (after : List ℕ) → TasksShow n after w (set ts (r .task) (taskOf d)) → Meant after
+    pub is-changed : c ≡ false → (d : TaskRead) → taskSeen d ≡ changeOf k (taskSeen a) → (after : List ℕ) → TasksShow n after w (set ts (r .task) (taskSeen d)) → Meant after
     is-changed f d ed after p =
         said n after w _ _ p (by-request _ (rw (concerned, ended, f, ed, ea)))
 

@@ -9,7 +9,7 @@ ghost use Rattle.rules.specs.Sizes.{maxTasks, slotCount};
 ghost use Rattle.splitting.specs.Plain.{unblocked, wakened, withReservation, _▷_};
 ghost use Rattle.splitting.specs.Who.{wakeUnfair, reblock};
 ghost use Rattle.queue.specs.View.{waitersOf};
-ghost use Rattle.records.specs.View.{taskOf, requestOf};
+ghost use Rattle.records.specs.View.{taskSeen, requestOf};
 ghost use Rattle.words.specs.View.{requestWords, taskWords, slotsOf, tasksOf, TasksShow};
 ghost use Rattle.head.specs.View.{plainOf, Shaped, Shows};
 ghost use Rattle.rousing.specs.Parts.{requestIn, concerns, changeOf, ownerChanged, forEach, wokenIfAsked};
@@ -64,13 +64,13 @@ fn concerned(waiter: Request, change: Change) -> bool
 }
 
 fn unblock_and_wake(owner: Task) -> Task
-    ensures { λ r. ⌜ taskOf r ≡ wakened (unblocked (taskOf owner)) ⌝ }
+    ensures { λ r. ⌜ taskSeen r ≡ wakened (unblocked (taskSeen owner)) ⌝ }
 {
     owner.unblock().wake()
 }
 
 fn changed(owner: Task, change: Change) -> Task
-    ensures { λ r. ⌜ taskOf r ≡ changeOf change (taskOf owner) ⌝ }
+    ensures { λ r. ⌜ taskSeen r ≡ changeOf change (taskSeen owner) ⌝ }
 {
     match change {
         Change::Wake => unblock_and_wake(owner),

@@ -16,7 +16,7 @@ use Rattle.rules.specs.Request.{Request, noRequest}
 use Rattle.rules.specs.State.{Batch, Permits, State, stock, taskAt, requestAt, askedAt, withPermits, alterTask, alterRequest}
 use Rattle.rules.specs.Fresh.{firstBatch}
 use Rattle.rules.specs.Taking.{Meal, standingOf, standing, eat, Taken, taking, adding}
-use Rattle.rules.specs.Broken.{standingBatches}
+use Rattle.rules.specs.Broken.{setUpBatches}
 use Rattle.rules.specs.Promises.{Each, ClockFits, BatchFits, RequestFits, SlotFits}
 use Rattle.rules.proofs.Bools.{by-cond}
 use Rattle.rules.proofs.Clocks.{length-join, length-empty}
@@ -48,7 +48,7 @@ empty-fits = record { wide = length-empty width; entries = each-replicate (λ n.
 
 pub record PermitsFit (p : Permits) : Type 0 where
   pub stock : p .stock ≤ largest
-  pub batches : Each BatchFits (standingBatches (p .batches))
+  pub batches : Each BatchFits (setUpBatches (p .batches))
   pub last : ClockFits (p .last)
 
 pub first-fits : (n : ℕ) (c : Clock) → n ≤ largest → ClockFits c → Each BatchFits (firstBatch n c)
@@ -56,7 +56,7 @@ unfolding firstBatch
 first-fits zero c l h = tt
 first-fits (suc n) c l h = (record { size = l; clock = h }, tt)
 
-standing-fits : (n : ℕ) (o : Option (List Batch)) → n ≤ largest → Each BatchFits (standingBatches o) → Each BatchFits (standingOf n o)
+standing-fits : (n : ℕ) (o : Option (List Batch)) → n ≤ largest → Each BatchFits (setUpBatches o) → Each BatchFits (standingOf n o)
 unfolding standingOf
 standing-fits n none l h = first-fits n (empty width) l empty-fits
 standing-fits n (some bs) l h = h

@@ -32,7 +32,7 @@ use Rattle.rules.specs.Polling.{polling, pollWork, pollMark, polled, tak
 use Rattle.rules.specs.Steps.{make, failTry, tryBy, poll, addReleased, release, dropping, dropWork, free, dropRequest, emptyQueue, dropReservation, closing, effectOf}
 use Rattle.rules.specs.Refusals.{returned}
 use Rattle.rules.specs.Runs.{step, run}
-use Rattle.rules.specs.Broken.{standingBatches}
+use Rattle.rules.specs.Broken.{setUpBatches}
 use Rattle.rules.specs.Sound.{SoundPermits, Sound}
 use Rattle.rules.specs.Promises.{Each, ClockFits, BatchFits, RequestFits, SlotFits, CountsFit, StartFits, ActFits, StepFits}
 use Rattle.rules.proofs.Eaches.{each-member, each-append, each-set, each-at, each-take, each-drop, each-replicate}
@@ -258,7 +258,7 @@ rows-fit n (suc k) rows w e h =
     (row-fits n rows w (omega arith) h, rows-fit n k (drop n rows) w (length-drop n rows ∙ omega arith) (each-drop (λ m. m ≤ largest) n rows h))
 
 batches-fit : (n : ℕ) (ts : List Task) (o : Option TaskId) → n ≤ largest → Each (λ (a : Task). ClockFits (a .clock)) ts
-    → Each BatchFits (standingBatches (freshBatches n ts o))
+    → Each BatchFits (setUpBatches (freshBatches n ts o))
 unfolding freshBatches
 batches-fit n ts none l h = tt
 batches-fit n ts (some t) l h = first-fits n _ l (each-at (λ (a : Task). ClockFits (a .clock)) ts (t .0) noTask h empty-fits)
@@ -281,10 +281,10 @@ fitting-fresh a e f =
 
 -- What a fitting state promises.
 
-batch-number : (p : Permits) → SoundPermits p → length (standingBatches (p .batches)) ≤ batchCount
+batch-number : (p : Permits) → SoundPermits p → length (setUpBatches (p .batches)) ≤ batchCount
 batch-number p h = go (p .batches) refl
   where
-    go : (o : Option (List Batch)) → p .batches ≡ o → length (standingBatches o) ≤ batchCount
+    go : (o : Option (List Batch)) → p .batches ≡ o → length (setUpBatches o) ≤ batchCount
     go none e = omega arith
     go (some bs) e = h bs e .room
 

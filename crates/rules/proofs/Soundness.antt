@@ -14,7 +14,7 @@ use Rattle.rules.specs.Sizes.{maxTasks, slotCount, batchCount}
 use Rattle.rules.specs.Request.{Request}
 use Rattle.rules.specs.State.{Batch, State, strict, stock, isSome, reserved, inUse, requestAt, askedAt, leastAt, taskOf}
 use Rattle.rules.specs.Refusals.{badReserving}
-use Rattle.rules.specs.Broken.{anyOf, member, twice, everySlot, reservedSlots, standingBatches, total, isBeyond, isFree, isMisMarked, cannotReserve, isMisMade, asksNothing, cannotWait, isEmptyBatch, differs, nonEmpty, broken}
+use Rattle.rules.specs.Broken.{anyOf, member, twice, everySlot, reservedSlots, setUpBatches, total, isBeyond, isFree, isMisMarked, cannotReserve, isMisMade, asksNothing, cannotWait, isEmptyBatch, differs, nonEmpty, broken}
 use Rattle.rules.specs.Sound.{Waits, IsReserved, WellMade, SoundPermits, Sound}
 use Rattle.rules.proofs.Bools.{by-test, clash, neither, _nor_, not-both, and-other, is-not-not, beq-same, same-beq, positive, not-zero}
 use Rattle.rules.proofs.Slots.{free-request, past-unused, used-below}
@@ -24,7 +24,7 @@ use Rattle.rules.proofs.Queues.{none-of, no-member, member-fails, slot-
 pub record Clauses (s : State) : Type 0 where
   pub tasks : ltb maxTasks (length (s .tasks)) ≡ false
   pub queue : ltb slotCount (length (s .queue)) ≡ false
-  pub batches : ltb batchCount (length (standingBatches (s .permits .batches))) ≡ false
+  pub batches : ltb batchCount (length (setUpBatches (s .permits .batches))) ≡ false
   pub beyond : anyOf isBeyond (s .queue) ≡ false
   pub reserved-beyond : anyOf isBeyond (reservedSlots (s .reservation)) ≡ false
   pub free : anyOf (isFree s) (s .queue) ≡ false
@@ -36,7 +36,7 @@ pub record Clauses (s : State) : Type 0 where
   pub waits : anyOf (cannotWait s) (s .queue) ≡ false
   pub reserved-waits : anyOf (cannotWait s) (reservedSlots (s .reservation)) ≡ false
   pub closed : (s .closed && (nonEmpty (s .queue) || reserved s)) ≡ false
-  pub sizes : anyOf isEmptyBatch (standingBatches (s .permits .batches)) ≡ false
+  pub sizes : anyOf isEmptyBatch (setUpBatches (s .permits .batches)) ≡ false
   pub sum : differs (stock s) (s .permits .batches) ≡ false
 
 pub clauses : (s : State) → broken s ≡ false → Clauses s
@@ -150,8 +150,8 @@ module _ (s : State) (n : length (s .slots) ≡ slotCount) (c : Clauses s) where
   permits bs e =
       record {
         room =
-            ltb-false batchCount (length bs) (subst (λ (o : Option (List Batch)). ltb batchCount (length (standingBatches o)) ≡ false) e (c .batches));
-        sizes = subst (λ (o : Option (List Batch)). anyOf isEmptyBatch (standingBatches o) ≡ false) e (c .sizes);
+            ltb-false batchCount (length bs) (subst (λ (o : Option (List Batch)). ltb batchCount (length (setUpBatches o)) ≡ false) e (c .batches));
+        sizes = subst (λ (o : Option (List Batch)). anyOf isEmptyBatch (setUpBatches o) ≡ false) e (c .sizes);
         sum = eqb-true (total bs) (stock s) (not-false _ (subst (λ (o : Option (List Batch)). differs (stock s) o ≡ false) e (c .sum)));
       }
 
@@ -202,7 +202,7 @@ module _ (s : State) (h : Sound s) where
       (λ e. let k = h .closed e in ap (λ (q : List Slot). nonEmpty q) (k .0) nor ap (λ (o : Option Slot). isSome o) (k .1))
 
   batches-add-up : (o : Option (List Batch)) → s .permits .batches ≡ o
-      → (ltb batchCount (length (standingBatches o)) ≡ false) × (anyOf isEmptyBatch (standingBatches o) ≡ false) × (differs (stock s) o ≡ false)
+      → (ltb batchCount (length (setUpBatches o)) ≡ false) × (anyOf isEmptyBatch (setUpBatches o) ≡ false) × (differs (stock s) o ≡ false)
   unfolding anyOf
   batches-add-up none e = (refl, refl, refl)
   batches-add-up (some bs) e =

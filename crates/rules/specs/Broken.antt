@@ -39,10 +39,10 @@ abbrev pub reservedSlots : Option Slot → List Slot
 reservedSlots none = []
 reservedSlots (some x) = x ∷ []
 
--- the batches that stand now: none where they are not yet set up (Taking's `standing` is of those that stand once they are)
-abbrev pub standingBatches : Option (List Batch) → List Batch
-standingBatches none = []
-standingBatches (some bs) = bs
+-- the batches, none where they are not yet set up
+abbrev pub setUpBatches : Option (List Batch) → List Batch
+setUpBatches none = []
+setUpBatches (some bs) = bs
 
 unfoldable pub total : List Batch → ℕ
 total [] = 0
@@ -87,7 +87,7 @@ broken s =
     -- tasks, queue, batches or a named slot beyond their sizes
     ltb maxTasks (length (s .tasks))
     || ltb slotCount (length (s .queue))
-    || ltb batchCount (length (standingBatches (s .permits .batches)))
+    || ltb batchCount (length (setUpBatches (s .permits .batches)))
     || anyOf isBeyond (s .queue) || anyOf isBeyond (reservedSlots (s .reservation))
     -- a queue naming a free slot or one twice
     || anyOf (isFree s) (s .queue) || twice (s .queue)
@@ -104,4 +104,4 @@ broken s =
     -- closed with a queue or reservation
     || (s .closed && (nonEmpty (s .queue) || reserved s))
     -- a batch of 0, or set-up batches not adding up to the stock
-    || anyOf isEmptyBatch (standingBatches (s .permits .batches)) || differs (stock s) (s .permits .batches)
+    || anyOf isEmptyBatch (setUpBatches (s .permits .batches)) || differs (stock s) (s .permits .batches)

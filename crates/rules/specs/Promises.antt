@@ -28,7 +28,7 @@ use Rattle.rules.specs.Scan.{leave, verdict, grantQueued, queueGrant}
 use Rattle.rules.specs.Steps.{sortOf, bySort, addReleased, dropping, isFirst, frontBypassable, effectOf}
 use Rattle.rules.specs.Refusals.{refusal}
 use Rattle.rules.specs.Runs.{Said, step}
-use Rattle.rules.specs.Broken.{member, twice, standingBatches}
+use Rattle.rules.specs.Broken.{member, twice, setUpBatches}
 
 -- every element has the property
 abbrev pub Each {ℓ} : {A : Type ℓ} → (A → Type 0) → List A → Type 0
@@ -196,8 +196,8 @@ SlotFits n (some r) = RequestFits n r
 -- no count or clock entry passes 4,294,967,295, and no slot, task or batch number its size
 pub record CountsFit (s : State) : Type 0 where
   pub stock : stock s ≤ largest
-  pub batches : Each BatchFits (standingBatches (s .permits .batches))
-  pub batch-number : length (standingBatches (s .permits .batches)) ≤ batchCount
+  pub batches : Each BatchFits (setUpBatches (s .permits .batches))
+  pub batch-number : length (setUpBatches (s .permits .batches)) ≤ batchCount
   pub last : ClockFits (s .permits .last)
   pub tasks : Each (λ (a : Task). ClockFits (a .clock)) (s .tasks)
   pub task-number : length (s .tasks) ≤ maxTasks

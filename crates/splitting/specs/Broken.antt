@@ -9,7 +9,7 @@ use Rattle.rules.specs.declared.Slot.{Slot}
 use Rattle.rules.specs.Sizes.{maxTasks, slotCount, batchCount}
 use Rattle.rules.specs.State.{Batch}
 use Rattle.rules.specs.Refusals.{badReserving}
-use Rattle.rules.specs.Broken.{anyOf, member, twice, everySlot, reservedSlots, standingBatches, isBeyond, isEmptyBatch, differs, nonEmpty}
+use Rattle.rules.specs.Broken.{anyOf, member, twice, everySlot, reservedSlots, setUpBatches, isBeyond, isEmptyBatch, differs, nonEmpty}
 use Rattle.splitting.specs.Plain.{Request, Plain, strict, reserved, inUse, requestAt}
 
 -- holding or completed, or naming none of n tasks
@@ -50,4 +50,4 @@ brokenPlain p =
 
 -- batches beyond their size, a batch of 0, or not adding up to the stock
 abbrev pub badBatches : ℕ → Option (List Batch) → Bool
-badBatches n o = ltb batchCount (length (standingBatches o)) || anyOf isEmptyBatch (standingBatches o) || differs n o
+badBatches n o = ltb batchCount (length (setUpBatches o)) || anyOf isEmptyBatch (setUpBatches o) || differs n o

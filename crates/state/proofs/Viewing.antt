@@ -26,7 +26,7 @@ use Rattle.tables.proofs.Tables.{table-get, table-past, table-length}
 use Rattle.clock.specs.declared.VectorClock.{VectorClock}
 use Rattle.records.specs.declared.Request.{Request}
 use Rattle.records.specs.declared.Task.{Task}
-use Rattle.records.specs.View.{taskOf, requestOf, Stands}
+use Rattle.records.specs.View.{taskSeen, requestOf, Stands}
 use Rattle.queue.specs.declared.Reservation.{Reservation}
 use Rattle.queue.specs.View.{reservationOf}
 use Rattle.words.specs.View.{taskWords, taskIn, tasksOf, slotsOf}
@@ -110,7 +110,7 @@ tasks-worded n i xs sized =
     ]
 
 pub task-read : (s : BatchSemaphore) (t : TaskId) (xs : List ℕ) (n : ℕ) (r : Task) → n ≡ min (s .head .tasks) maxTasks → length xs ≡ maxTasks * taskWords
-    → taskOf r ≡ getD (tasksOf n xs) (t .0) P.noTask → (w : Words) → w .tasks ≡ xs → taskOf r ≡ forgetTask (taskAt t (viewOf s w))
+    → taskSeen r ≡ getD (tasksOf n xs) (t .0) P.noTask → (w : Words) → w .tasks ≡ xs → taskSeen r ≡ forgetTask (taskAt t (viewOf s w))
 task-read s t xs n r m l e w q =
     let f : getD (tasksOf n xs) (t .0) P.noTask ≡ getD (tasksOf (s .head .tasks) xs) (t .0) P.noTask = rw m (tasks-worded (s .head .tasks) (t .0) xs l) in
     e ∙ f ∙ sym (view-task s w t ∙ rw q)

@@ -6,7 +6,7 @@ ghost use lib.ListN.{length};
 ghost use Rattle.rules.specs.Sizes.{maxTasks};
 ghost use Rattle.rules.specs.State.{strict as strictOf, available as availableOf, stock as stockOf, taskAt, requestAt};
 ghost use Rattle.splitting.specs.Split.{forgetTask};
-ghost use Rattle.records.specs.View.{taskOf};
+ghost use Rattle.records.specs.View.{taskSeen};
 ghost use Rattle.state.specs.View.{Words, viewOf, RequestRead};
 use batches::Batches;
 use clock::VectorClock;
@@ -75,7 +75,7 @@ impl BatchSemaphore {
 
     // The task of a number; past the last, Runnable and unwoken.
     pub fn task(self, tasks: &[u32; 32], t: TaskId) -> Task
-        ensures { λ r. ⌜ ((w : Words) → w .tasks ≡ now (tasks .entry) → taskOf r ≡ forgetTask (taskAt t (viewOf self w))) ⌝ }
+        ensures { λ r. ⌜ ((w : Words) → w .tasks ≡ now (tasks .entry) → taskSeen r ≡ forgetTask (taskAt t (viewOf self w))) ⌝ }
     {
         let n = worded(self.head.tasks);
         words::task_at(tasks, n, t.0 as u32)

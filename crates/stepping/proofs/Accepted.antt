@@ -7,7 +7,7 @@ use lib.ListN.{length}
 use Rattle.rules.specs.declared.Step.{Step}
 use Rattle.splitting.specs.Plain.{Plain}
 use Rattle.splitting.specs.Who as W
-use Rattle.splitting.specs.Times.{backOf}
+use Rattle.splitting.specs.Times.{timingOf, backOf}
 use Rattle.splitting.specs.Kept.{Kept, keptStep}
 use Rattle.replies.specs.declared.Reply.{Reply}
 use Rattle.replies.specs.Answers.{answerOf}
@@ -17,7 +17,7 @@ use Rattle.head.specs.declared.Answered.{Answered}
 use Rattle.head.specs.View.{Answers}
 use Rattle.batches.specs.declared.Batches.{Batches}
 use Rattle.batches.specs.View.{standsIn}
-use Rattle.times.specs.View.{changeOf, AbleAtRest, Shows}
+use Rattle.times.specs.View.{AbleAtRest, Shows}
 use Rattle.times.specs.View as T
 use Rattle.choosing.specs.declared.Choice.{Choice}
 use Rattle.choosing.specs.Choice.{effectBy, movesIn}
@@ -55,9 +55,9 @@ module _ (s : BatchSemaphore) (w : Words) (gs : List ℕ) (a : Step) (l : Plan) 
     who-so = subst (Answers d ss ts hs) chosen who
 
     -- what the times ask
-    pub may-time : T.Able (changeOf (a .act)) (a .actor) (answerOf (d .reply)) (d .count) (l .back) (w .clocks) (standsIn (s .batches) (w .sizes) (w .rows))
+    pub may-time : T.Able (timingOf (a .act)) (a .actor) (answerOf (d .reply)) (d .count) (l .back) (w .clocks) (standsIn (s .batches) (w .sizes) (w .rows))
     may-time =
-        subst (λ (n : ℕ). T.Able (changeOf (a .act)) (a .actor) (answerOf (d .reply)) (d .count) n (w .clocks) (standsIn (s .batches) (w .sizes) (w .rows))) (sym (due .planned .back))
+        subst (λ (n : ℕ). T.Able (timingOf (a .act)) (a .actor) (answerOf (d .reply)) (d .count) n (w .clocks) (standsIn (s .batches) (w .sizes) (w .rows))) (sym (due .planned .back))
         (able-here s w gs (due .fit) a (due .unrefused) d ss ts hs who-so)
 
   pub taken : (d : Answered) (b : Batches) (v : Words) (hs : List ℕ) → Answers d (v .slots) (v .tasks) hs (effectBy (a .actor) (l .choice) p)
@@ -84,7 +84,7 @@ module _ (s : BatchSemaphore) (w : Words) (gs : List ℕ) (a : Step) (l : Plan) 
       none-back-here : l .back ≡ 0
       none-back-here = due .planned .back ∙ none-back (a .act) p (sym (ap movesIn (due .planned .choice)) ∙ rests-so _ _ _ r ss ts _ _ by y said)
 
-      pub may-rest : AbleAtRest (changeOf (a .act)) (a .actor) (answerOf y) (w .clocks)
+      pub may-rest : AbleAtRest (timingOf (a .act)) (a .actor) (answerOf y) (w .clocks)
       may-rest = rest-here s w gs (due .fit) a (due .unrefused) (answerOf y) (rested .answer) (rested .grants)
 
       answers : Answers (record { reply = y; count = 0; head = s .head }) ss ts gs (effectBy (a .actor) (l .choice) p)

@@ -16,7 +16,7 @@ use Rattle.rules.specs.Sound.{Sound}
 use Rattle.rules.proofs.KeepsSteps.{sound-effect}
 use Rattle.splitting.specs.Plain.{Plain}
 use Rattle.splitting.specs.Who as W
-use Rattle.splitting.specs.Times.{known, backOf, timesRefusal}
+use Rattle.splitting.specs.Times.{known, timingOf, backOf, timesRefusal}
 use Rattle.splitting.specs.Kept.{Kept, keptStep, timesKept, Ready}
 use Rattle.splitting.specs.Split.{whole}
 use Rattle.splitting.specs.Parts.{orElse, refusalParts}
@@ -33,7 +33,7 @@ use Rattle.head.specs.declared.Answered.{Answered}
 use Rattle.head.specs.View.{Answers}
 use Rattle.batches.specs.declared.Batches.{Batches}
 use Rattle.batches.specs.View.{standsIn}
-use Rattle.times.specs.View.{refusalKept, changeOf, Able, AbleAtRest, Shows}
+use Rattle.times.specs.View.{refusalKept, Able, AbleAtRest, Shows}
 use Rattle.times.proofs.Clocks.{clocks-length}
 use Rattle.times.proofs.Told.{refusal-kept, able-accepted, counted, ungranted, able-at-rest}
 use Rattle.times.proofs.Public.{whole-step}
@@ -98,22 +98,22 @@ module _ (s : BatchSemaphore) (w : Words) (gs : List ℕ) (f : Fit s w gs) where
 
       -- what the times count on, of who's outcome
       pub able-here : (d : Answered) (ss ts hs : List ℕ) → Answers d ss ts hs (W.effect a p)
-          → Able (changeOf (a .act)) (a .actor) (answerOf (d .reply)) (d .count) (backOf (a .act) p) (w .clocks) (standsIn (s .batches) (w .sizes) (w .rows))
+          → Able (timingOf (a .act)) (a .actor) (answerOf (d .reply)) (d .count) (backOf (a .act) p) (w .clocks) (standsIn (s .batches) (w .sizes) (w .rows))
       unfolding known
       able-here d ss ts hs o =
           let n : d .count ≡ length (W.effect a p .grants) = sym (grants-number (d .count) hs) ∙ ap length (o .grants) in
           let c = counted a p in
-          able-accepted (changeOf (a .act)) (a .actor) (answerOf (d .reply)) (d .count) (known a p) (s .batches) (w .sizes) (w .rows) (w .last) (w .makers) (w .clocks)
+          able-accepted (timingOf (a .act)) (a .actor) (answerOf (d .reply)) (d .count) (known a p) (s .batches) (w .sizes) (w .rows) (w .last) (w .makers) (w .clocks)
           actor-here
           (o .few)
           late-accepts
           (rw (o .answer, n) c)
 
       -- and of an outcome without grants
-      pub rest-here : (o : Answer) → o ≡ W.effect a p .answer → W.effect a p .grants ≡ [] → AbleAtRest (changeOf (a .act)) (a .actor) o (w .clocks)
+      pub rest-here : (o : Answer) → o ≡ W.effect a p .answer → W.effect a p .grants ≡ [] → AbleAtRest (timingOf (a .act)) (a .actor) o (w .clocks)
       unfolding known
       rest-here o e g =
-          able-at-rest (changeOf (a .act)) (a .actor) o (known a p) (s .batches) (w .sizes) (w .rows) (w .last) (w .makers) (w .clocks) actor-here late-accepts
+          able-at-rest (timingOf (a .act)) (a .actor) o (known a p) (s .batches) (w .sizes) (w .rows) (w .last) (w .makers) (w .clocks) actor-here late-accepts
           (rw e (ungranted a p g))
 
       -- the two parts' results together: the rules' outcome

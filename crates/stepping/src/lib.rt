@@ -8,7 +8,8 @@ ghost use lib.ListN.{length};
 ghost use Rattle.rules.specs.Sizes.{maxTasks, slotCount, width};
 ghost use Rattle.words.specs.View.{taskWords};
 ghost use Rattle.replies.specs.Answers.{answerOf};
-ghost use Rattle.times.specs.View.{changeOf, AbleAtRest};
+ghost use Rattle.splitting.specs.Times.{timingOf};
+ghost use Rattle.times.specs.View.{AbleAtRest};
 ghost use Rattle.choosing.specs.Choice.{movesIn};
 ghost use Rattle.state.specs.View.{words, Fit};
 ghost use Rattle.stepping.specs.Contract.{NotAccepted, Checks, Due, RestTaken, Taken, StepsOn};
@@ -66,7 +67,7 @@ fn rest(
     a: Step,
     reply: Reply,
 ) -> Stepped
-    requires { ⌜ (length (now last) ≡ width) × (length (now makers) ≡ slotCount * width) × (length (now clocks) ≡ maxTasks * width) × (AbleAtRest (changeOf (a .act)) (a .actor) (answerOf reply) (now clocks)) ⌝ }
+    requires { ⌜ (length (now last) ≡ width) × (length (now makers) ≡ slotCount * width) × (length (now clocks) ≡ maxTasks * width) × (AbleAtRest (timingOf (a .act)) (a .actor) (answerOf reply) (now clocks)) ⌝ }
     ensures { λ r. ⌜ RestTaken s a reply r (now (last .entry)) (now (makers .exit)) (now (clocks .exit)) (now (makers .entry)) (now (clocks .entry)) ⌝ }
 {
     times::rest_times(last, makers, clocks, a, reply);

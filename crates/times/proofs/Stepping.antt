@@ -7,7 +7,6 @@ use mathlib.Core.Option.{Option}
 use Rattle.rules.specs.declared.TaskId.{TaskId}
 use Rattle.rules.specs.declared.Grant.{Grant}
 use Rattle.rules.specs.declared.Step.{Step}
-use Rattle.rules.specs.declared.Act.{Act}
 use Rattle.rules.specs.State.{Batch}
 use Rattle.rules.specs.Steps.{Answer}
 use Rattle.rules.specs.Steps.Answer.{done, granted, pending, closed, none-left, made, refused}
@@ -62,17 +61,14 @@ pub gave : (g r : Batches) (sizes rows last makers clocks sizes′ rows′ last�
 gave g r sizes rows last makers clocks sizes′ rows′ last′ clocks′ k gs v s q =
     shown r sizes′ rows′ last′ makers clocks′ _ _ (ap (grantEach k gs) (s .view)) q
 
-by-timing : (t : TaskId) (a : Act) (o : Answer) (gs : List Grant) (k : Known) (w : Kept) → timed (timingOf a) t o gs (k .stock) (k .back) w ≡ keptOfAct t a o gs k w
-unfolding keptOfAct
-by-timing t a o gs k w = refl
-
 -- what a step may count on, and what it comes to
 module _ (a : Step) (d e : Timing) (told : d ≡ timingOf (a .act)) (is : d ≡ e) where
   pub able : (o : Answer) (count back : ℕ) (clocks : List ℕ) (bs : Option (List Batch)) → Able (timingOf (a .act)) (a .actor) o count back clocks bs → Able e (a .actor) o count back clocks bs
   able o count back clocks bs h = let q : timingOf (a .act) ≡ e = sym told ∙ is in rw q at h
 
   by-step : (o : Answer) (gs : List Grant) (k : Known) (w : Kept) → timed e (a .actor) o gs (k .stock) (k .back) w ≡ keptStep a o gs k w
-  by-step o gs k w = ap (λ (x : Timing). timed x (a .actor) o gs (k .stock) (k .back) w) (sym is ∙ told) ∙ by-timing (a .actor) (a .act) o gs k w
+  unfolding keptOfAct
+  by-step o gs k w = ap (λ (x : Timing). timed x (a .actor) o gs (k .stock) (k .back) w) (sym is ∙ told)
 
   pub stepped : (o : Answer) (gs : List Grant) (k : Known) (w : Kept) (r : Batches) (sizes rows last makers clocks : List ℕ) → Shows r sizes rows last makers clocks (timed e (a .actor) o gs (k .stock) (k .back) w) → Shows r sizes rows last makers clocks (keptStep a o gs k w)
   stepped o gs k w r sizes rows last makers clocks s = shown r sizes rows last makers clocks _ _ (by-step o gs k w) s

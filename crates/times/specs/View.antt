@@ -15,12 +15,11 @@ use Rattle.rules.specs.Steps.{Answer}
 use Rattle.rules.specs.Steps.Answer.{done, granted, pending, closed, none-left, made, refused}
 use Rattle.splitting.specs.Kept.{Kept, clockAt, taking, keptStep}
 use Rattle.rules.specs.State.{Batch}
-use Rattle.splitting.specs.Times.{Known, timingOf}
+use Rattle.splitting.specs.Times.{Known}
 use Rattle.tables.specs.Table.{row, table}
 use Rattle.batches.specs.View.{standsIn, WellFormed}
 use Rattle.batches.specs.declared.Batches.{Batches}
 use Rattle.clock.specs.declared.VectorClock.{VectorClock}
-use Rattle.rules.specs.declared.Act.{Act}
 use Rattle.splitting.specs.declared.Timing.{Timing}
 use Rattle.splitting.specs.declared.Timing.the-variants.{Makes, Takes, Tries, Gives, Stays}
 
@@ -78,9 +77,6 @@ lastTick t w = leb largest (getD (clockAt t w) (t .0) 0)
 
 unfoldable pub refusalKept : TaskId → Known → Kept → Option ℕ
 refusalKept t k w = first (9 if (ltb 0 (k .back) && full (w .batches)) ∷ 11 if (k .ticks && lastTick t w) ∷ [])
-
-abbrev pub changeOf : Act → Timing
-changeOf a = timingOf a
 
 abbrev pub isFailed : Answer → Bool
 isFailed done = false

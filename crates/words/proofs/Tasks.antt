@@ -15,7 +15,7 @@ use Rattle.rules.specs.Task.{isFinished}
 use Rattle.splitting.specs.Plain.{Task as TaskRule, noTask, unblocked, wakened}
 use Rattle.tables.proofs.Tables.{table-set, table-get, table-length, table-past}
 use Rattle.records.specs.declared.Task.{Task}
-use Rattle.records.specs.View.{taskOf}
+use Rattle.records.specs.View.{taskSeen}
 use Rattle.words.specs.View.{stateOf, stateWord, marked, markWord, taskWords, taskIn, tasksOf, taskStands, TasksStand, TasksShow}
 use Rattle.words.proofs.Single.{mark-back, state-back, mark-stands, state-stands}
 
@@ -90,11 +90,11 @@ read-there w n t s m l es em = (λ i. record { state = es i; woken = em i }) ∙
 pub read-past : (w : List ℕ) (n t : ℕ) (a : TaskRule) → n ≤ t → a ≡ noTask → a ≡ getD (tasksOf n w) t noTask
 read-past w n t a l e = e ∙ sym (task-past w n t l)
 
-pub read-finished : (f : Bool) (a : Task) (b : TaskRule) → f ≡ isFinished (a .state) → taskOf a ≡ b → f ≡ isFinished (b .state)
+pub read-finished : (f : Bool) (a : Task) (b : TaskRule) → f ≡ isFinished (a .state) → taskSeen a ≡ b → f ≡ isFinished (b .state)
 read-finished f a b e v = e ∙ ap (λ (z : TaskRule). isFinished (z .state)) v
 
-pub roused-shows : (w after : List ℕ) (n t : ℕ) (a b d : Task) → taskOf a ≡ getD (tasksOf n w) t noTask → taskOf b ≡ unblocked (taskOf a) → taskOf d ≡ wakened (taskOf b)
-    → TasksShow n after w (set (tasksOf n w) t (taskOf d)) → TasksShow n after w (set (tasksOf n w) t (wakened (unblocked (getD (tasksOf n w) t noTask))))
+pub roused-shows : (w after : List ℕ) (n t : ℕ) (a b d : Task) → taskSeen a ≡ getD (tasksOf n w) t noTask → taskSeen b ≡ unblocked (taskSeen a) → taskSeen d ≡ wakened (taskSeen b)
+    → TasksShow n after w (set (tasksOf n w) t (taskSeen d)) → TasksShow n after w (set (tasksOf n w) t (wakened (unblocked (getD (tasksOf n w) t noTask))))
 roused-shows w after n t a b d ea eb ed p =
-    let e : taskOf d ≡ wakened (unblocked (getD (tasksOf n w) t noTask)) = ed ∙ ap (λ (z : TaskRule). wakened z) eb ∙ ap (λ (z : TaskRule). wakened (unblocked z)) ea in
+    let e : taskSeen d ≡ wakened (unblocked (getD (tasksOf n w) t noTask)) = ed ∙ ap (λ (z : TaskRule). wakened z) eb ∙ ap (λ (z : TaskRule). wakened (unblocked z)) ea in
     record { view = p .view ∙ ap (λ (z : TaskRule). set (tasksOf n w) t z) e; stand = p .stand }

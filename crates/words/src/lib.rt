@@ -11,7 +11,7 @@ ghost use Rattle.rules.specs.Task.{isFinished};
 ghost use Rattle.splitting.specs.Plain.{noTask, unblocked, wakened};
 ghost use Rattle.splitting.specs.Who.{lowestFree};
 ghost use Rattle.tables.specs.Table.{row};
-ghost use Rattle.records.specs.View.{taskOf, seen, Stands, marking};
+ghost use Rattle.records.specs.View.{taskSeen, seen, Stands, marking};
 ghost use Rattle.words.specs.View.{stateOf, stateWord, kindOf, kindWord, markWord, requestWords, taskWords, decoded, encoded, slotsOf, altered, SlotsShow, tasksOf, TasksShow, grantsOf, grantWordsIn};
 use records::Marking;
 use records::Request;
@@ -170,7 +170,7 @@ pub fn request_at(slots: &[u32], x: Slot) -> Request
     }
     let w = row_at(slots, i);
     let r = request_of(w);
-    r.standing()
+    r.used_or_none()
 }
 
 // The request of a slot is written; past the slots, nothing.
@@ -229,7 +229,7 @@ pub fn lowest_free(slots: &[u32]) -> usize
 // The task of a number; past the last, Runnable and unwoken.
 pub fn task_at(tasks: &[u32], count: u32, t: u32) -> Task
     requires { ⌜ (count ≤ maxTasks) × (length (now tasks) ≡ maxTasks * taskWords) ⌝ }
-    ensures { λ r. ⌜ taskOf r ≡ getD (tasksOf count (now (tasks .entry))) t noTask ⌝ }
+    ensures { λ r. ⌜ taskSeen r ≡ getD (tasksOf count (now (tasks .entry))) t noTask ⌝ }
 {
     let i = t as usize;
     if count <= t {
@@ -245,7 +245,7 @@ pub fn task_at(tasks: &[u32], count: u32, t: u32) -> Task
 // The task's words are written; past the last, nothing.
 pub fn put_task(tasks: &mut [u32], count: u32, t: u32, a: Task)
     requires { ⌜ (count ≤ maxTasks) × (length (now tasks) ≡ maxTasks * taskWords) ⌝ }
-    ensures { λ _. ⌜ TasksShow count (now (tasks .exit)) (now (tasks .entry)) (set (tasksOf count (now (tasks .entry))) t (taskOf a)) ⌝ }
+    ensures { λ _. ⌜ TasksShow count (now (tasks .exit)) (now (tasks .entry)) (set (tasksOf count (now (tasks .entry))) t (taskSeen a)) ⌝ }
 {
     let i = t as usize;
     if count <= t {

@@ -19,8 +19,8 @@ row-at-requires c κs = search needs
 request-of-requires : tie.Need-request-of-requires
 request-of-requires c κs = search needs
 
-standing-requires : tie.Need-standing-requires
-standing-requires c κs = search needs
+used-or-none-requires : tie.Need-used-or-none-requires
+used-or-none-requires c κs = search needs
 
 returns-2 : tie.Need-returns-2
 returns-2 c = search (stands-there, needs)
@@ -34,5 +34,5 @@ request-at-spec =
     returns
     row-at-requires
     request-of-requires
-    standing-requires
+    used-or-none-requires
     returns-2)
