@@ -1,7 +1,9 @@
 // Our side of the comparison with the Rust. With no argument it replays the recorded scripts, which stand beside it;
 // `one` prints the whole state after each line of a script, `many` of many scripts.
+mod bytes;
 mod sample;
 mod states;
+mod walk;
 
 // The first letter of the first argument; 0 where there is none.
 fn word() -> u8 {

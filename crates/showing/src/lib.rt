@@ -8,6 +8,7 @@ use printing::bit;
 use queue::Waiters;
 use replies::Reply;
 use state::BatchSemaphore;
+use state::Stepped;
 
 // What is left behind a place.
 fn left(len: usize, at: usize) -> usize
@@ -59,34 +60,29 @@ fn put_words(buf: &mut [u8], at: usize, words: &[u32], from: usize, n: usize) ->
 }
 
 // A row: its kind and what it is of, and n words from a place on.
-fn put_row(buf: &mut [u8], at: usize, of: &[u32], words: &[u32], from: usize, n: usize) -> usize {
+fn put_row(buf: &mut [u8], at: usize, of: &[u32], words: &[u32], k: usize, n: usize) -> usize {
     let p = put_words(buf, at, of, 0, of.len());
-    let q = put_words(buf, p, words, from, n);
+    let q = put_words(buf, p, words, k, n);
     put(buf, q, b"\n")
 }
 
-// Whether the slot of a number is in use. With no slots lent, everything stands.
-fn stands(slots: &[u32], i: u32) -> bool {
-    if slots.len() == 0 {
-        return true;
-    }
-    word(slots, i as usize * 10) != 0
-}
-
+// The row of an item, if it stands: where slots are lent, if the slot of its number is in use.
 fn put_item(
     buf: &mut [u8],
     at: usize,
     kind: u32,
     i: u32,
     words: &[u32],
-    from: usize,
+    k: usize,
     n: usize,
     slots: &[u32],
 ) -> usize {
-    if !stands(slots, i) {
-        return at;
+    if 0 < slots.len() {
+        if word(slots, i as usize * 10) == 0 {
+            return at;
+        }
     }
-    put_row(buf, at, &[kind, i], words, from, n)
+    put_row(buf, at, &[kind, i], words, k, n)
 }
 
 // So many rows of a table from a place on, n words of each; where slots are lent, of those in use.
@@ -143,49 +139,74 @@ fn put_queue(buf: &mut [u8], at: usize, h: Head) -> usize {
     put_row(buf, e, &[7], &[r.slot.0 as u32], 0, bit(r.made) as usize)
 }
 
-fn put_sem(buf: &mut [u8], at: usize, h: Head) -> usize {
-    let unfair = bit(!h.strictly_fair());
-    put_row(buf, at, &[2, unfair, bit(h.closed), h.stock], &[], 0, 0)
-}
-
 fn batches_of(b: Batches) -> u32 {
     let ring = b.permit_clocks;
     if b.ready { standing(ring.count, 64) } else { 0 }
 }
 
-// The batches, and the clock of the last taking.
-fn put_permits(
+// How many tasks there are, and entries of a clock.
+fn tasks_of(h: Head) -> u32 {
+    standing(h.tasks, 16)
+}
+
+// The semaphore itself.
+fn put_semaphore(
     buf: &mut [u8],
     at: usize,
-    b: Batches,
+    s: BatchSemaphore,
     sizes: &[u32],
     rows: &[u32],
     last: &[u32],
-    n: u32,
 ) -> usize {
-    let head = b.permit_clocks.head as usize;
+    let h = s.head;
+    let b = s.batches;
+    let n = tasks_of(h) as usize;
     let count = batches_of(b);
-    let wide = n as usize;
-    let p = put_row(buf, at, &[3, bit(b.ready)], sizes, head, count as usize);
-    let q = put_table(buf, p, 4, count, rows, head * 16, 16, wide, &[]);
-    put_row(buf, q, &[5], last, 0, wide)
+    let first = b.permit_clocks.head as usize;
+    let unfair = bit(!h.strictly_fair());
+    let p2 = put_row(buf, at, &[2, unfair, bit(h.closed), h.stock], &[], 0, 0);
+    let p3 = put_row(buf, p2, &[3, bit(b.ready)], sizes, first, count as usize);
+    let p4 = put_table(buf, p3, 4, count, rows, first * 16, 16, n, &[]);
+    let p5 = put_row(buf, p4, &[5], last, 0, n);
+    put_queue(buf, p5, h)
 }
 
 // The tasks, and the requests in their slots.
 fn put_records(
     buf: &mut [u8],
     at: usize,
+    h: Head,
     slots: &[u32],
     tasks: &[u32],
     makers: &[u32],
     clocks: &[u32],
-    n: u32,
 ) -> usize {
-    let wide = n as usize;
-    let p = put_table(buf, at, 8, n, tasks, 0, 2, 2, &[]);
-    let q = put_table(buf, p, 9, n, clocks, 0, 16, wide, &[]);
-    let r = put_table(buf, q, 10, 32, slots, 0, 10, 10, slots);
-    put_table(buf, r, 11, 32, makers, 0, 16, wide, slots)
+    let count = tasks_of(h);
+    let n = count as usize;
+    let p8 = put_table(buf, at, 8, count, tasks, 0, 2, 2, &[]);
+    let p9 = put_table(buf, p8, 9, count, clocks, 0, 16, n, &[]);
+    let p10 = put_table(buf, p9, 10, 32, slots, 0, 10, 10, slots);
+    put_table(buf, p10, 11, 32, makers, 0, 16, n, slots)
+}
+
+fn is_refused(reply: Reply) -> bool {
+    match reply {
+        Reply::Refused(_) => true,
+        _ => false,
+    }
+}
+
+// The script program's line.
+fn put_line(buf: &mut [u8], at: usize, r: Stepped, grants: &[u32; 96]) -> usize {
+    if left(buf.len(), at) < 180 {
+        return at;
+    }
+    if 32 < r.count {
+        return at;
+    }
+    let reply = r.reply;
+    let s = r.state;
+    printing::print_line(buf, at, reply, printing::counts_of(s.head), grants, r.count)
 }
 
 // How many grants stand in their words.
@@ -193,17 +214,13 @@ fn grants_of(count: usize) -> u8 {
     if count < 32 { count as u8 } else { 32 }
 }
 
-// The rows of a step: what its questions about points were told, and its grants.
-pub fn put_step(buf: &mut [u8], at: usize, points: &[u32], grants: &[u32], count: usize) -> usize {
-    let p = put_row(buf, at, &[0], points, 0, points.len());
-    put_row(buf, p, &[1], grants, 0, 3 * grants_of(count) as usize)
-}
-
-// The rows of a state.
-pub fn put_state(
+// The line of a step, and where it was accepted the rows: what its questions about points were told, its grants, and the state.
+pub fn put_step(
     buf: &mut [u8],
     at: usize,
-    s: BatchSemaphore,
+    told: &[u32],
+    asked: usize,
+    r: Stepped,
     slots: &[u32],
     tasks: &[u32],
     sizes: &[u32],
@@ -211,29 +228,16 @@ pub fn put_state(
     last: &[u32],
     makers: &[u32],
     clocks: &[u32],
-) -> usize {
-    let head = s.head;
-    let n = standing(head.tasks, 16);
-    let p = put_sem(buf, at, head);
-    let q = put_permits(buf, p, s.batches, sizes, rows, last, n);
-    let r = put_queue(buf, q, head);
-    put_records(buf, r, slots, tasks, makers, clocks, n)
-}
-
-// The script program's line.
-pub fn put_line(
-    buf: &mut [u8],
-    at: usize,
-    reply: Reply,
-    h: Head,
     grants: &[u32; 96],
-    count: usize,
 ) -> usize {
-    if left(buf.len(), at) < 180 {
-        return at;
+    let p = put_line(buf, at, r, grants);
+    let reply = r.reply;
+    if is_refused(reply) {
+        return p;
     }
-    if 32 < count {
-        return at;
-    }
-    printing::print_line(buf, at, reply, printing::counts_of(h), grants, count)
+    let p0 = put_row(buf, p, &[0], told, 0, asked);
+    let p1 = put_row(buf, p0, &[1], grants, 0, 3 * grants_of(r.count) as usize);
+    let s = r.state;
+    let p7 = put_semaphore(buf, p1, s, sizes, rows, last);
+    put_records(buf, p7, s.head, slots, tasks, makers, clocks)
 }

@@ -7,10 +7,10 @@ use Rattle.replay.proofs.sample.replay.Statement.{statement}
 use Rattle.replay.proofs.sample.replay.Tie as tie
 
 abbrev Inv-loop : tie.InvT-loop
-Inv-loop script₀ want₀ got₀ r₀ number₀ script want got r number = (length script ≡ length script₀) × (length want ≡ length want₀) × (length got ≡ length got₀)
+Inv-loop script₀ want₀ got₀ t₀ number₀ script want got t number = (length script ≡ length script₀) × (length want ≡ length want₀) × (length got ≡ length got₀)
 
 abbrev μ-loop : tie.MeasureT-loop
-μ-loop script₀ want₀ got₀ r₀ number₀ script want got r number = 1000 - number
+μ-loop script₀ want₀ got₀ t₀ number₀ script want got t number = 1000 - number
 
 loop-holds : tie.Need-loop-holds Inv-loop μ-loop
 loop-holds c = search needs

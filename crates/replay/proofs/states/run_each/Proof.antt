@@ -1,4 +1,4 @@
--- `replay::states::run_each`: the turns that are left; the lengths of the buffers are kept.
+-- `replay::states::run_each`: the turns that are left; only the lengths of the buffers are kept.
 use borrow.Author.Needs.{needs}
 use lib.ListN.{length}
 use mathlib.Core.Path.{_≡_}
@@ -6,10 +6,10 @@ use Rattle.replay.proofs.states.run_each.Statement.{statement}
 use Rattle.replay.proofs.states.run_each.Tie as tie
 
 abbrev Inv-loop : tie.InvT-loop
-Inv-loop buf₀ script₀ r₀ turns₀ buf script r turns = (length buf ≡ length buf₀) × (length script ≡ length script₀)
+Inv-loop buf₀ script₀ on₀ turns₀ buf script on turns = (length buf ≡ length buf₀) × (length script ≡ length script₀)
 
 abbrev μ-loop : tie.MeasureT-loop
-μ-loop buf₀ script₀ r₀ turns₀ buf script r turns = turns
+μ-loop buf₀ script₀ on₀ turns₀ buf script on turns = turns
 
 loop-holds : tie.Need-loop-holds Inv-loop μ-loop
 loop-holds c = search needs
