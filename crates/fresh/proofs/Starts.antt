@@ -1,8 +1,12 @@
 -- What holds of every start: 12 exactly where document 01 gives it, no second answer, and what comes back is shaped and sound.
 use Prim.Native.Nat.{ℕ}
 use native.Mathlib.Omega.{arith}
+use Prim.Native.Nat.{ℕ, _*_}
 use mathlib.Core.Path.{_≡_, refl, sym, _∙_}
 use mathlib.Core.Bool.{Bool, true, false, cond}
+use mathlib.Core.List.{List}
+use lib.ListN.{length}
+use Rattle.rules.specs.Sizes.{slotCount}
 use Rattle.rules.specs.Steps.{Outcome, quiet}
 use Rattle.rules.specs.Steps.Answer.{done, refused}
 use Rattle.rules.specs.Fresh.{Start, fresh, refusedFresh, refuses12}
@@ -10,7 +14,7 @@ use Rattle.rules.specs.Runs.{start}
 use Rattle.rules.specs.Sound.{Sound}
 use Rattle.rules.proofs.Bools.{by-cond}
 use Rattle.rules.proofs.KeepsSteps.{sound-fresh, sound-refused}
-use Rattle.state.specs.View.{Words, viewOf, ShapedAll}
+use Rattle.state.specs.View.{Words, viewOf, ShapedAll, Fit}
 use Rattle.fresh.specs.declared.Started.{Started}
 use Rattle.fresh.specs.Starting.{answerOf, Gives}
 
@@ -48,6 +52,9 @@ module _ (r : Started) (w : Words) (a : Start) (g : Gives r w (start a)) where
 
   pub started-sound : Sound (viewOf (r .state) w)
   started-sound = rw (g .view) (sound-start a)
+
+pub started-fit : (a : Start) {r : Started} {w : Words} {gs : List ℕ} → Gives r w (start a) → length gs ≡ slotCount * 3 → Fit (r .state) w gs
+started-fit a {r = r} {w = w} g l = record { shaped = g .shaped; grants = l; sound = started-sound r w a g }
 
 -- Two results that both meet the contract have the same answer and stand for the same state.
 pub starts-once : (r q : Started) (w v : Words) (o : Outcome) → Gives r w o → Gives q v o

@@ -1,6 +1,6 @@
 -- `measuring::run`: refused or accepted, a start gives what every step may count on.
 use borrow.Author.Needs.{needs}
-use Rattle.trace.proofs.Firsts.{started-fit}
+use Rattle.fresh.proofs.Starts.{started-fit}
 use Rattle.measuring.proofs.run.Statement.{statement}
 use Rattle.measuring.proofs.run.Tie as tie
 
