@@ -1,5 +1,4 @@
 -- What holds of every start: 12 exactly where document 01 gives it, no second answer, and what comes back is shaped and sound.
-use Prim.Native.Nat.{ℕ}
 use native.Mathlib.Omega.{arith}
 use Prim.Native.Nat.{ℕ, _*_}
 use mathlib.Core.Path.{_≡_, refl, sym, _∙_}
