@@ -2,7 +2,7 @@
 use Prim.Native.Nat.{ℕ, _+_, _*_, _≤_, _<_}
 use native.Mathlib.Omega.{arith}
 use mathlib.Core.Path.{_≡_}
-use mathlib.Core.Bool.{Bool}
+use mathlib.Core.Bool.{Bool, true, false}
 use mathlib.Core.List.{List, [], _∷_, _++_}
 use borrow.Author.Tests.{lt-ltb, le-ltb}
 use lib.ListN.{length, length-append}
@@ -18,7 +18,7 @@ use Rattle.replies.specs.declared.Reply.{Reply}
 use Rattle.replies.specs.declared.Reply.the-variants.{Made, Refused}
 use Rattle.replies.specs.Answers.{numberOf, answerOf}
 use Rattle.words.specs.View.{takerOf}
-use Rattle.printing.specs.Printed.{smallRoom, numberRoom, fieldRoom, countsRoom, answerRoom, nextRoom, Printed}
+use Rattle.printing.specs.Printed.{smallRoom, numberRoom, fieldRoom, closedRoom, queuedRoom, countsRoom, answerRoom, nextRoom, Printed}
 
 pub printed-then : {old : List ℕ} {at : ℕ} {xs mid : List ℕ} {p : ℕ} {ys new : List ℕ} {r : ℕ} (m k : ℕ) → at + m ≤ length old → Printed m old at xs mid p → Printed k mid p ys new r → Printed (m + k) old at (xs ++ ys) new r
 printed-then {xs = xs} {ys = ys} m k room a b =
@@ -83,13 +83,29 @@ module _ (old new : List ℕ) (at r w : ℕ) where
   pub printed-next : (mid : List ℕ) (p : ℕ) → at + nextRoom ≤ length old → Appended old at (comma ∷ []) mid p → Printed smallRoom mid p (takerText (takerOf w)) new r → Printed nextRoom old at (comma ∷ takerText (takerOf w)) new r
   printed-next mid p room a d = printed-then 1 smallRoom (omega arith) (printed-byte a) d
 
+-- closed, and the queue's length, each with a space
+pub printed-closed : (old : List ℕ) (at : ℕ) (new : List ℕ) (r : ℕ) (b : Bool) (d : ℕ) → closedText b ≡ d ∷ [] → Appended old at (d ∷ space ∷ []) new r → Printed closedRoom old at (closedText b ++ space ∷ []) new r
+printed-closed old at new r b d e a = rw e (record { written = a; short = omega arith })
+
+pub is-closed : (b : Bool) → b ≡ true → closedText b ≡ 49 ∷ []
+is-closed b e = rw e
+
+pub is-open : (b : Bool) → b ≡ false → closedText b ≡ 48 ∷ []
+is-open b e = rw e
+
+pub room-behind : (old : List ℕ) (at n : ℕ) (mid : List ℕ) (p : ℕ) → at + queuedRoom ≤ length old → length mid ≡ length old → Printed smallRoom old at (digits n) mid p → p + 1 ≤ length mid
+room-behind old at n mid p room e a = omega (arith, a .written .end, a .short)
+
+pub printed-queued : (old : List ℕ) (at n : ℕ) (mid : List ℕ) (p : ℕ) (new : List ℕ) (r : ℕ) → at + queuedRoom ≤ length old → Printed smallRoom old at (digits n) mid p → Appended mid p (space ∷ []) new r
+    → Printed queuedRoom old at (digits n ++ space ∷ []) new r
+printed-queued old at n mid p new r room a b = printed-then smallRoom 1 (omega arith) a (printed-byte b)
+
 -- available, stock, closed and queue length
-module _ (old m₁ m₂ m₃ new : List ℕ) (at p₁ p₂ p₃ r a s b q : ℕ) (c : Bool) where
-  pub printed-counts : at + countsRoom ≤ length old → digits b ≡ closedText c
+module _ (old m₁ m₂ m₃ new : List ℕ) (at p₁ p₂ p₃ r a s q : ℕ) (c : Bool) where
+  pub printed-counts : at + countsRoom ≤ length old
       → Printed fieldRoom old at (digits a ++ space ∷ []) m₁ p₁ → Printed fieldRoom m₁ p₁ (digits s ++ space ∷ []) m₂ p₂
-      → Printed fieldRoom m₂ p₂ (digits b ++ space ∷ []) m₃ p₃ → Printed fieldRoom m₃ p₃ (digits q ++ space ∷ []) new r
+      → Printed closedRoom m₂ p₂ (closedText c ++ space ∷ []) m₃ p₃ → Printed queuedRoom m₃ p₃ (digits q ++ space ∷ []) new r
       → Printed countsRoom old at (digits a ++ space ∷ [] ++ (digits s ++ space ∷ []) ++ (closedText c ++ space ∷ []) ++ (digits q ++ space ∷ [])) new r
-  printed-counts room e w₁ w₂ w₃ w₄ =
-      rw (← e)
-      (printed-then (3 * fieldRoom) fieldRoom (omega arith)
-      (printed-then (2 * fieldRoom) fieldRoom (omega arith) (printed-then fieldRoom fieldRoom (omega arith) w₁ w₂) w₃) w₄)
+  printed-counts room w₁ w₂ w₃ w₄ =
+      printed-then (fieldRoom + fieldRoom + closedRoom) queuedRoom (omega arith)
+      (printed-then (fieldRoom + fieldRoom) closedRoom (omega arith) (printed-then fieldRoom fieldRoom (omega arith) w₁ w₂) w₃) w₄

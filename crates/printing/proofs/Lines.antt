@@ -26,13 +26,13 @@ line-pieces : (a : Answer) (c : Counts) (gs : List Grant) → answerText a ++ sp
 unfolding joinedBy
 line-pieces a c gs = simp append-assoc
 
-pub line-printed : (old m₁ m₂ m₃ m₄ new : List ℕ) (at p₁ p₂ p₃ p₄ r : ℕ) (a : Answer) (c : Counts) (gs : List Grant) → at + lineRoom ≤ length old
-    → Printed answerRoom old at (answerText a) m₁ p₁ → Appended m₁ p₁ (space ∷ []) m₂ p₂ → Printed countsRoom m₂ p₂ (countsText c) m₃ p₃ → Printed grantsRoom m₃ p₃ (grantsText gs) m₄ p₄ → Appended m₄ p₄ (lineFeed ∷ []) new r
-    → Printed lineRoom old at (lineText a c gs) new r
-line-printed old m₁ m₂ m₃ m₄ new at p₁ p₂ p₃ p₄ r a c gs room w₁ w₂ w₃ w₄ w₅ =
+pub line-printed : (old m₁ m₂ m₃ m₄ new : List ℕ) (at p₁ p₂ p₃ p₄ r : ℕ) (a : Answer) (c : Counts) (gs : List Grant) (n : ℕ) → at + lineRoom n ≤ length old
+    → Printed answerRoom old at (answerText a) m₁ p₁ → Appended m₁ p₁ (space ∷ []) m₂ p₂ → Printed countsRoom m₂ p₂ (countsText c) m₃ p₃ → Printed (grantsRoom n) m₃ p₃ (grantsText gs) m₄ p₄ → Appended m₄ p₄ (lineFeed ∷ []) new r
+    → Printed (lineRoom n) old at (lineText a c gs) new r
+line-printed old m₁ m₂ m₃ m₄ new at p₁ p₂ p₃ p₄ r a c gs n room w₁ w₂ w₃ w₄ w₅ =
     rw (← line-pieces a c gs)
-    (printed-then (answerRoom + 1 + countsRoom + grantsRoom) 1 (omega arith)
-    (printed-then (answerRoom + 1 + countsRoom) grantsRoom (omega arith)
+    (printed-then (answerRoom + 1 + countsRoom + grantsRoom n) 1 (omega arith)
+    (printed-then (answerRoom + 1 + countsRoom) (grantsRoom n) (omega arith)
     (printed-then (answerRoom + 1) countsRoom (omega arith)
     (printed-then answerRoom 1 (omega arith) w₁ (printed-byte w₂)) w₃) w₄) (printed-byte w₅))
 
@@ -52,6 +52,6 @@ head-shown h c a b d e slots tasks =
     record { available = a ∙ made-reserved (h .reservation .made) (h .reservation .slot) (h .stock); stock = b; closed = d; queued = e }
 
 -- A queue is no longer than its array.
-pub queued-fits : (h : Head) (n : ℕ) → length (h .waiters .slots) ≡ 32 → n ≡ length (waitersOf (h .waiters)) → n < 4294967296
+pub queued-fits : (h : Head) (n : ℕ) → length (h .waiters .slots) ≡ 32 → n ≡ length (waitersOf (h .waiters)) → n < 256
 unfolding waitersOf
 queued-fits h n e q = omega (arith, q, e, length-take (h .waiters .len) (h .waiters .slots))

@@ -64,24 +64,24 @@ module _ (w : List ℕ) where
 pub rest-starts : (buf : List ℕ) (at : ℕ) (w : List ℕ) → Printed (nextRoom * (1 - 1)) buf at (restText (grantsOf 1 w)) buf at
 rest-starts buf at w = rw (rest-one w) (record { written = appended-none buf at; short = omega arith })
 
-pub rest-goes-on : (old buf new : List ℕ) (at p r i n : ℕ) (w : List ℕ) → at + restRoom ≤ length old → 0 < i → i < n → n ≤ slotCount
+pub rest-goes-on : (old buf new : List ℕ) (at p r i n : ℕ) (w : List ℕ) → at + restRoom n ≤ length old → 0 < i → i < n → n ≤ slotCount
     → Printed (nextRoom * (i - 1)) old at (restText (grantsOf i w)) buf p → Printed nextRoom buf p (comma ∷ takerText (takerOf (getD w (3 * i) 0))) new r
     → Printed (nextRoom * (i + 1 - 1)) old at (restText (grantsOf (i + 1) w)) new r
 rest-goes-on old buf new at p r i n w room z h l a b =
     rw (rest-more w i z) (printed-longer (omega arith) (printed-then (nextRoom * (i - 1)) nextRoom (omega arith) a b))
 
-pub rest-ends : (old new : List ℕ) (at r i n : ℕ) (w : List ℕ) → i ≤ n → n ≤ i → n ≤ slotCount → Printed (nextRoom * (i - 1)) old at (restText (grantsOf i w)) new r → Printed restRoom old at (restText (grantsOf n w)) new r
+pub rest-ends : (old new : List ℕ) (at r i n : ℕ) (w : List ℕ) → i ≤ n → n ≤ i → n ≤ slotCount → Printed (nextRoom * (i - 1)) old at (restText (grantsOf i w)) new r → Printed (restRoom n) old at (restText (grantsOf n w)) new r
 rest-ends old new at r i n w a b l p = let e : i ≡ n = omega arith in rw (← e) (printed-longer (omega arith) p)
 
-pub takers-printed : (old mid new : List ℕ) (at p r n : ℕ) (w : List ℕ) → at + grantsRoom ≤ length old → 0 < n
-    → Printed smallRoom old at (takerText (takerOf (getD w 0 0))) mid p → Printed restRoom mid p (restText (grantsOf n w)) new r
-    → Printed grantsRoom old at (takersText (grantsOf n w)) new r
-takers-printed old mid new at p r n w room z a b = rw (takers-first w n z) (printed-then smallRoom restRoom (omega arith) a b)
+pub takers-printed : (old mid new : List ℕ) (at p r n : ℕ) (w : List ℕ) → at + grantsRoom n ≤ length old → 0 < n
+    → Printed smallRoom old at (takerText (takerOf (getD w 0 0))) mid p → Printed (restRoom n) mid p (restText (grantsOf n w)) new r
+    → Printed (grantsRoom n) old at (takersText (grantsOf n w)) new r
+takers-printed old mid new at p r n w room z a b = rw (takers-first w n z) (printed-then smallRoom (restRoom n) (omega arith) a b)
 
 -- no grants, and some
-pub none-granted : (old new : List ℕ) (at r n : ℕ) (w : List ℕ) → n ≡ 0 → Appended old at (45 ∷ []) new r → Printed grantsRoom old at (grantsText (grantsOf n w)) new r
+pub none-granted : (old new : List ℕ) (at r n : ℕ) (w : List ℕ) → n ≡ 0 → Appended old at (45 ∷ []) new r → Printed (grantsRoom n) old at (grantsText (grantsOf n w)) new r
 unfolding grantsOf table
 none-granted old new at r n w z a = rw z (printed-longer (omega arith) (printed-byte a))
 
-pub some-granted : (old new : List ℕ) (at r n : ℕ) (w : List ℕ) → (n ≡ 0 → ⊥) → Printed grantsRoom old at (takersText (grantsOf n w)) new r → Printed grantsRoom old at (grantsText (grantsOf n w)) new r
+pub some-granted : (old new : List ℕ) (at r n : ℕ) (w : List ℕ) → (n ≡ 0 → ⊥) → Printed (grantsRoom n) old at (takersText (grantsOf n w)) new r → Printed (grantsRoom n) old at (grantsText (grantsOf n w)) new r
 some-granted old new at r n w z p = rw (granted-text w n (omega arith)) at p

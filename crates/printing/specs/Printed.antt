@@ -4,7 +4,6 @@ use mathlib.Core.Path.{_≡_}
 use mathlib.Core.List.{List, [], _∷_, _++_, map}
 use lib.ListN.{length, drop}
 use Rattle.rules.specs.declared.Grant.{Grant}
-use Rattle.rules.specs.Sizes.{slotCount}
 use Rattle.rules.specs.Steps.{Answer}
 use Rattle.rules.specs.Text.{space, comma, joinedBy, digits}
 use Rattle.rules.specs.Script.{answerText, closedText, takerText, grantsText, endLine}
@@ -25,27 +24,34 @@ numberRoom = 10
 abbrev pub fieldRoom : ℕ
 fieldRoom = numberRoom + 1
 
+-- closed 0 or 1, and the queue's length, which is a byte, each with a space
+abbrev pub closedRoom : ℕ
+closedRoom = 2
+
+abbrev pub queuedRoom : ℕ
+queuedRoom = smallRoom + 1
+
 -- available, stock, closed and queue length
 abbrev pub countsRoom : ℕ
-countsRoom = 4 * fieldRoom
+countsRoom = fieldRoom + fieldRoom + closedRoom + queuedRoom
 
 -- a word, or a letter and a number of a byte
 abbrev pub answerRoom : ℕ
 answerRoom = 7
 
--- a comma and a taker; those of all grants but the first; those of all
+-- a comma and a taker; those of n grants but the first; those of all, or the dash
 abbrev pub nextRoom : ℕ
 nextRoom = 1 + smallRoom
 
-abbrev pub restRoom : ℕ
-restRoom = nextRoom * (slotCount - 1)
+abbrev pub restRoom : ℕ → ℕ
+restRoom n = nextRoom * (n - 1)
 
-abbrev pub grantsRoom : ℕ
-grantsRoom = smallRoom + restRoom
+abbrev pub grantsRoom : ℕ → ℕ
+grantsRoom n = smallRoom + restRoom n
 
--- answer, space, counts, grants, line feed
-abbrev pub lineRoom : ℕ
-lineRoom = answerRoom + 1 + countsRoom + grantsRoom + 1
+-- THE ROOM FOR A LINE with n grants: answer, space, counts, grants, line feed
+abbrev pub lineRoom : ℕ → ℕ
+lineRoom n = answerRoom + 1 + countsRoom + grantsRoom n + 1
 
 -- a text of at most so many bytes, written into a buffer
 pub record Printed (most : ℕ) (old : List ℕ) (at : ℕ) (text new : List ℕ) (r : ℕ) : Type 0 where

@@ -9,7 +9,7 @@ ghost use Rattle.rules.specs.Script.{closedText, takerText, grantsText, answerT
 ghost use Rattle.replies.specs.Answers.{answerOf};
 ghost use Rattle.words.specs.View.{takerOf, grantsOf};
 ghost use Rattle.head.specs.View.{plainOf};
-ghost use Rattle.printing.specs.Printed.{smallRoom, fieldRoom, countsRoom, answerRoom, nextRoom, restRoom, grantsRoom, lineRoom, Printed, takersText, restText, countsText, lineText, ShownBy};
+ghost use Rattle.printing.specs.Printed.{smallRoom, fieldRoom, closedRoom, queuedRoom, countsRoom, answerRoom, nextRoom, restRoom, grantsRoom, lineRoom, Printed, takersText, restText, countsText, lineText, ShownBy};
 use head::Head;
 use replies::Reply;
 
@@ -21,7 +21,7 @@ pub struct Counts {
     pub available: u32,
     pub stock: u32,
     pub closed: bool,
-    pub queued: u32,
+    pub queued: u8,
 }
 
 // What a line shows of any state: slots and tasks do not show.
@@ -29,7 +29,7 @@ pub fn counts_of(h: Head) -> Counts
     ensures { λ c. ⌜ ((slots tasks : List ℕ) → ShownBy c (plainOf h slots tasks)) ⌝ }
 {
     let available = h.available_permits();
-    let queued = h.queue_length() as u32;
+    let queued = h.queue_length() as u8;
     Counts {
         available,
         stock: h.stock,
@@ -62,14 +62,34 @@ pub fn bit(b: bool) -> u32
     if b { 1 } else { 0 }
 }
 
+// Closed 0 or 1 and a space.
+fn print_closed(buf: &mut [u8], at: usize, closed: bool) -> usize
+    requires { ⌜ at + closedRoom ≤ length (now buf) ⌝ }
+    ensures { λ r. ⌜ Printed closedRoom (now (buf .entry)) at (closedText closed ++ space ∷ []) (now (buf .exit)) r ⌝ }
+{
+    if closed {
+        return text::put(buf, at, b"1 ");
+    }
+    text::put(buf, at, b"0 ")
+}
+
+// The queue's length and a space.
+fn print_queued(buf: &mut [u8], at: usize, n: u8) -> usize
+    requires { ⌜ at + queuedRoom ≤ length (now buf) ⌝ }
+    ensures { λ r. ⌜ Printed queuedRoom (now (buf .entry)) at (digits n ++ space ∷ []) (now (buf .exit)) r ⌝ }
+{
+    let p = print_small(buf, at, n);
+    text::put(buf, p, b" ")
+}
+
 fn print_counts(buf: &mut [u8], at: usize, c: Counts) -> usize
     requires { ⌜ at + countsRoom ≤ length (now buf) ⌝ }
     ensures { λ r. ⌜ Printed countsRoom (now (buf .entry)) at (countsText c) (now (buf .exit)) r ⌝ }
 {
     let p = print_field(buf, at, c.available);
     let q = print_field(buf, p, c.stock);
-    let r = print_field(buf, q, bit(c.closed));
-    print_field(buf, r, c.queued)
+    let r = print_closed(buf, q, c.closed);
+    print_queued(buf, r, c.queued)
 }
 
 fn print_answer(buf: &mut [u8], at: usize, a: Reply) -> usize
@@ -114,8 +134,8 @@ fn print_next(buf: &mut [u8], at: usize, taker: u32) -> usize
 
 // The takers of n grants but the very first, a comma before each.
 fn print_rest(buf: &mut [u8], at: usize, grants: &[u32], n: usize) -> usize
-    requires { ⌜ (0 < n) × (n ≤ slotCount) × (length (now grants) ≡ slotCount * 3) × (at + restRoom ≤ length (now buf)) ⌝ }
-    ensures { λ r. ⌜ Printed restRoom (now (buf .entry)) at (restText (grantsOf n (now (grants .entry)))) (now (buf .exit)) r ⌝ }
+    requires { ⌜ (0 < n) × (n ≤ slotCount) × (length (now grants) ≡ slotCount * 3) × (at + restRoom n ≤ length (now buf)) ⌝ }
+    ensures { λ r. ⌜ Printed (restRoom n) (now (buf .entry)) at (restText (grantsOf n (now (grants .entry)))) (now (buf .exit)) r ⌝ }
 {
     let mut p = at;
     let mut i: usize = 1;
@@ -129,8 +149,8 @@ fn print_rest(buf: &mut [u8], at: usize, grants: &[u32], n: usize) -> usize
 
 // The takers of n grants, joined by commas.
 fn print_takers(buf: &mut [u8], at: usize, grants: &[u32], n: usize) -> usize
-    requires { ⌜ (0 < n) × (n ≤ slotCount) × (length (now grants) ≡ slotCount * 3) × (at + grantsRoom ≤ length (now buf)) ⌝ }
-    ensures { λ r. ⌜ Printed grantsRoom (now (buf .entry)) at (takersText (grantsOf n (now (grants .entry)))) (now (buf .exit)) r ⌝ }
+    requires { ⌜ (0 < n) × (n ≤ slotCount) × (length (now grants) ≡ slotCount * 3) × (at + grantsRoom n ≤ length (now buf)) ⌝ }
+    ensures { λ r. ⌜ Printed (grantsRoom n) (now (buf .entry)) at (takersText (grantsOf n (now (grants .entry)))) (now (buf .exit)) r ⌝ }
 {
     let taker = grants[0];
     let p = print_taker(buf, at, taker);
@@ -138,8 +158,8 @@ fn print_takers(buf: &mut [u8], at: usize, grants: &[u32], n: usize) -> usize
 }
 
 fn print_grants(buf: &mut [u8], at: usize, grants: &[u32], n: usize) -> usize
-    requires { ⌜ (n ≤ slotCount) × (length (now grants) ≡ slotCount * 3) × (at + grantsRoom ≤ length (now buf)) ⌝ }
-    ensures { λ r. ⌜ Printed grantsRoom (now (buf .entry)) at (grantsText (grantsOf n (now (grants .entry)))) (now (buf .exit)) r ⌝ }
+    requires { ⌜ (n ≤ slotCount) × (length (now grants) ≡ slotCount * 3) × (at + grantsRoom n ≤ length (now buf)) ⌝ }
+    ensures { λ r. ⌜ Printed (grantsRoom n) (now (buf .entry)) at (grantsText (grantsOf n (now (grants .entry)))) (now (buf .exit)) r ⌝ }
 {
     if n == 0 {
         return text::put(buf, at, b"-");
@@ -149,8 +169,8 @@ fn print_grants(buf: &mut [u8], at: usize, grants: &[u32], n: usize) -> usize
 
 // The whole line.
 pub fn print_line(buf: &mut [u8], at: usize, a: Reply, c: Counts, grants: &[u32], n: usize) -> usize
-    requires { ⌜ (n ≤ slotCount) × (length (now grants) ≡ slotCount * 3) × (at + lineRoom ≤ length (now buf)) ⌝ }
-    ensures { λ r. ⌜ Printed lineRoom (now (buf .entry)) at (lineText (answerOf a) c (grantsOf n (now (grants .entry)))) (now (buf .exit)) r ⌝ }
+    requires { ⌜ (n ≤ slotCount) × (length (now grants) ≡ slotCount * 3) × (at + lineRoom n ≤ length (now buf)) ⌝ }
+    ensures { λ r. ⌜ Printed (lineRoom n) (now (buf .entry)) at (lineText (answerOf a) c (grantsOf n (now (grants .entry)))) (now (buf .exit)) r ⌝ }
 {
     let p = print_answer(buf, at, a);
     let q = text::put(buf, p, b" ");

@@ -66,9 +66,12 @@ module _ (line : List ℕ) (at : ℕ) (r : Reading) (read : ReadAt line at r) wh
           let q : k ≡ suc n = omega (arith, o) in
           rw (q, w, take-suc-set starts n x (omega (arith, a .sized)), a .kept (omega arith))
 
+      sized-still : length starts′ ≡ 256
+      sized-still = rw (w, length-set) (a .sized)
+
       pub along-last : r ≡ Last x → Reads (numbersOf (fields (drop from line))) k starts′
       along-last e =
-          record { numbers = a .numbers ++ x ∷ []; says = a .left ∙ rw (last-read x e); count = count-more; kept = kept-more }
+          record { numbers = a .numbers ++ x ∷ []; says = a .left ∙ rw (last-read x e); count = count-more; kept = kept-more; sized = sized-still }
 
       pub along-more : (next : ℕ) → r ≡ Then x next → Along line from starts′ next k
       along-more next e =
@@ -78,7 +81,7 @@ module _ (line : List ℕ) (at : ℕ) (r : Reading) (read : ReadAt line at r) wh
             count = count-more;
             kept = kept-more;
             within = subst (Behind line at) e (read .behind) .1;
-            sized = rw (w, length-set) (a .sized);
+            sized = sized-still;
           }
         where
           regroup : (l : Option (List ℕ)) → ((l >>= λ ns. some (x ∷ ns)) >>= λ ms. some (a .numbers ++ ms)) ≡ (l >>= λ ms. some (a .numbers ++ x ∷ [] ++ ms))

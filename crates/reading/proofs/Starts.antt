@@ -7,7 +7,7 @@ use mathlib.Core.Path.{_≡_, refl, ap, sym, subst, _∙_}
 use mathlib.Core.Bool.{Bool, true, false, or-true}
 use mathlib.Core.List.{List, [], _∷_}
 use mathlib.Core.Option.{Option, none, some, Option·map}
-use lib.ListN.{length, take, drop, replicate}
+use lib.ListN.{length, take, drop, replicate, length-replicate}
 use lib.Seq.{take-length, length-take-le}
 use borrow.Author.Tests.{lt-ltb, le-ltb, le-leb, lt-leb, eq-eqb, ne-eqb}
 use Rattle.rules.specs.Fresh.{Start, refuses12}
@@ -51,6 +51,9 @@ none-taken n h = rw (lt-ltb 256 n h)
 
 pub all-taken : (n : ℕ) → n ≤ 256 → n ≡ fewer n
 all-taken n h = rw (le-ltb 256 n h)
+
+few-taken : (n k : ℕ) → k ≡ fewer n → k ≤ 256
+few-taken n k f = elim (decLe n 256) [ yes h ↦ omega (arith, f ∙ sym (all-taken n h)) | no h ↦ omega (arith, f ∙ sym (none-taken n (omega arith))) ]
 
 -- 12 refuses more entries than 16 tasks have, and none.
 many-entries : (a : Start) → 256 < length (a .clocks) → refuses12 a ≡ true
@@ -104,9 +107,6 @@ module _ (a : First) (cs starts : List ℕ) (n k : ℕ) (kept : n ≤ 256 → ta
             rw q (refused-start (saidWith a []) (no-entries (saidWith a []) refl) ∙ sym (refused-start (saidWith a cs) (many-entries (saidWith a cs) (long (omega arith)))))
       ]
 
-  read-few : k ≤ 256
-  read-few = elim (decLe n 256) [ yes h ↦ omega (arith, f ∙ sym (all-taken n h)) | no h ↦ omega (arith, f ∙ sym (none-taken n (omega arith))) ]
-
 clocked-some : (fs : List (List ℕ)) (f : List ℕ) (gs : List (List ℕ)) (a : Start) → fs ≡ f ∷ gs → clockedBy fs a ≡ (numbersOf fs >>= λ cs. some (withClocks cs a))
 unfolding clockedBy
 clocked-some fs f gs a e = rw e
@@ -117,7 +117,7 @@ module _ (a : First) (line : List ℕ) (e next : ℕ) where
   unfolding clockedBy
   clocked-none n zs h q z =
       rw (le-leb (length line) e h)
-      (refl, record { start = startSaid a; says = refl; same = rw z (zero-start a n q); few = rw q (entries-few (a .tasks)) })
+      (refl, record { start = startSaid a; says = refl; same = rw z (zero-start a n q); few = rw q (entries-few (a .tasks)); there = rw (z, length-replicate {A = ℕ} 256 0, q) (entries-few (a .tasks)) })
 
   module _ (h : e < length line) (r : Clocks) (starts : List ℕ) (is : ClocksTo line (e + 1) r starts) where
     by-numbers : clockedBy (fieldsBehind line e) (startSaid a) ≡ (numbersOf (fields (drop (e + 1) line)) >>= λ cs. some (withClocks cs (startSaid a)))
@@ -131,7 +131,8 @@ module _ (a : First) (line : List ℕ) (e next : ℕ) where
             start = saidWith a (p .numbers);
             says = by-numbers ∙ rw (p .says);
             same = read-start a (p .numbers) starts n k (p .kept) (λ l. omega (arith, p .count)) f;
-            few = read-few a (p .numbers) starts n k (p .kept) (λ l. omega (arith, p .count)) f;
+            few = few-taken n k f;
+            there = omega (arith, few-taken n k f, p .sized);
           },
         )
 
@@ -157,7 +158,7 @@ unfolding orElse
 named-read none first entries starts r = let p = r .says in let z : _≡_ {A = ℕ} 0 1 = cc in absurd (omega arith)
 named-read (some a) first entries starts r =
     let q : startNamed a ≡ r .start = ap (orElse (r .start)) (r .says) in
-    record { start = a; says = refl; same = r .same ∙ ap start (sym q) ∙ start-within a; few = r .few }
+    record { start = a; says = refl; same = r .same ∙ ap start (sym q) ∙ start-within a; few = r .few; there = r .there }
 
 named-none : (o : Option Start) → Option·map startNamed o ≡ none → o ≡ none
 named-none none e = refl
@@ -225,12 +226,12 @@ module _ (clocks : Bool) (script : List ℕ) (l : NextLine) (is : NextIs script 
       go : (x : FirstLine) → SaysStart clocks (take e script) (e + 1) x starts → SaysFirst clocks script x starts
       go (Is first entries next) s =
           record { line = record { content = take e script; ended = true }; shows = rw (s .0) shown; read = s .1; bytes = omega (arith, s .0, n); within = omega (arith, s .0, w .1) }
-      go Bad s = record { line = record { content = take e script; ended = true }; behind = lines (drop (e + 1) script); shows = shown; says = s; some = omega (arith, w .1) }
+      go Bad s = record { line = record { content = take e script; ended = true }; behind = lines (drop (e + 1) script); shows = shown; says = s; some-bytes = omega (arith, w .1) }
       go Nothing s = absurd s
 
   pub first-unended : l ≡ Unended → SaysFirst clocks script Bad starts
   first-unended q =
-      record { line = record { content = script; ended = false }; behind = []; shows = rw q at is .shows; says = refl; some = subst (λ (x : NextLine). Within script 0 x) q (is .within) }
+      record { line = record { content = script; ended = false }; behind = []; shows = rw q at is .shows; says = refl; some-bytes = subst (λ (x : NextLine). Within script 0 x) q (is .within) }
 
   pub first-none : l ≡ End → SaysFirst clocks script Nothing starts
   first-none q = rw q at is .shows

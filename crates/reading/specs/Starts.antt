@@ -61,6 +61,7 @@ pub record StartRead (o : Option Start) (first : First) (entries : ℕ) (starts 
   pub says : o ≡ some start
   pub same : begun (saidWith first (take entries starts)) ≡ begun start
   pub few : entries ≤ 256
+  pub there : entries ≤ length starts
 
 abbrev pub SaysStart : Bool → List ℕ → ℕ → FirstLine → List ℕ → Type 0
 SaysStart clocks line next (Is first entries next′) starts = (next′ ≡ next) × StartRead (startAs clocks line) first entries starts
@@ -80,7 +81,7 @@ pub record BadAt (clocks : Bool) (script : List ℕ) : Type 0 where
   pub behind : List Line
   pub shows : lines script ≡ line ∷ behind
   pub says : said (startAs clocks) line ≡ none
-  pub some : 0 < length script
+  pub some-bytes : 0 < length script
 
 abbrev pub SaysFirst : Bool → List ℕ → FirstLine → List ℕ → Type 0
 SaysFirst clocks script (Is first entries next) starts = StartAt clocks script first entries next starts
@@ -110,6 +111,7 @@ pub record Reads (o : Option (List ℕ)) (n : ℕ) (starts : List ℕ) : Type 0 
   pub says : o ≡ some numbers
   pub count : n ≡ min (length numbers) 257
   pub kept : n ≤ 256 → take n starts ≡ numbers
+  pub sized : length starts ≡ 256
 
 abbrev pub ClocksTo : List ℕ → ℕ → Clocks → List ℕ → Type 0
 ClocksTo line from (Are n) starts = Reads (numbersOf (fields (drop from line))) n starts

@@ -1,10 +1,8 @@
 // The fresh state that a first line says, in words that the caller lends.
-ghost use mathlib.Core.Path.{_≡_};
-ghost use lib.ListN.{replicate};
 ghost use Rattle.rules.specs.Runs.{start as startOf};
 ghost use Rattle.state.specs.View.{words};
 ghost use Rattle.fresh.specs.Starting.{Gives};
-ghost use Rattle.starting.specs.Said.{entriesOf, saidWith, freshOf};
+ghost use Rattle.reading.specs.Starts.{saidWith};
 use fresh::Started;
 use script::First;
 use script::Maker;
@@ -54,49 +52,4 @@ pub fn start_with(
             clocks,
         ),
     }
-}
-
-// How many entries the starting clocks of so many tasks have; 12 refuses more than 16 tasks whatever their clocks.
-pub fn entries(tasks: u32) -> usize
-    ensures { λ r. ⌜ r ≡ entriesOf tasks ⌝ }
-{
-    if 16 < tasks {
-        return 0;
-    }
-    let n = tasks as usize;
-    n * n
-}
-
-fn zeros() -> [u32; 256]
-    ensures { λ r. ⌜ r ≡ replicate 256 0 ⌝ }
-{
-    [0u32; 256]
-}
-
-// With clocks that are all zero.
-pub fn start(
-    a: First,
-    slots: &mut [u32; 320],
-    tasks: &mut [u32; 32],
-    sizes: &mut [u32; 64],
-    rows: &mut [u32; 1024],
-    last: &mut [u32; 16],
-    makers: &mut [u32; 512],
-    clocks: &mut [u32; 256],
-) -> Started
-    ensures { λ r. ⌜ Gives r (words (now (slots .exit)) (now (tasks .exit)) (now (sizes .exit)) (now (rows .exit)) (now (last .exit)) (now (makers .exit)) (now (clocks .exit))) (freshOf a) ⌝ }
-{
-    let starts = zeros();
-    let n = entries(a.tasks);
-    start_with(
-        a,
-        &starts[..n],
-        slots,
-        tasks,
-        sizes,
-        rows,
-        last,
-        makers,
-        clocks,
-    )
 }

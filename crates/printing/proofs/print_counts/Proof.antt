@@ -10,14 +10,11 @@ print-field-requires c κs = search needs
 print-field-requires-2 : tie.Need-print-field-requires-2
 print-field-requires-2 c κs = search needs
 
-bit-requires : tie.Need-bit-requires
-bit-requires c κs = search needs
+print-closed-requires : tie.Need-print-closed-requires
+print-closed-requires c κs = search needs
 
-print-field-requires-3 : tie.Need-print-field-requires-3
-print-field-requires-3 c κs = search needs
-
-print-field-requires-4 : tie.Need-print-field-requires-4
-print-field-requires-4 c κs = search needs
+print-queued-requires : tie.Need-print-queued-requires
+print-queued-requires c κs = search needs
 
 same-length : tie.Need-same-length
 same-length c = search needs
@@ -27,12 +24,4 @@ returns c = search (printed-counts, needs)
 
 pub print-counts-spec : {M : Type 1} → statement M
 print-counts-spec =
-    tie.close
-    (tie.spec
-    print-field-requires
-    print-field-requires-2
-    bit-requires
-    print-field-requires-3
-    print-field-requires-4
-    same-length
-    returns)
+    tie.close (tie.spec print-field-requires print-field-requires-2 print-closed-requires print-queued-requires same-length returns)

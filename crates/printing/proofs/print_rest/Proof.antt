@@ -5,7 +5,7 @@ use borrow.Author.Needs.{needs}
 use lib.ListN.{length}
 use Rattle.rules.specs.Sizes.{slotCount}
 use Rattle.words.specs.View.{grantsOf}
-use Rattle.printing.specs.Printed.{nextRoom, restRoom, Printed, restText}
+use Rattle.printing.specs.Printed.{nextRoom, Printed, restText}
 use Rattle.printing.proofs.Takers.{rest-starts, rest-goes-on, rest-ends}
 use Rattle.printing.proofs.print_rest.Statement.{statement}
 use Rattle.printing.proofs.print_rest.Tie as tie

@@ -1,6 +1,6 @@
 -- `starting::start_with`: with a maker or without.
 use borrow.Author.Needs.{needs}
-use Rattle.starting.proofs.Clocks.{said-maker, said-nobody}
+use Rattle.starting.proofs.Makers.{said-maker, said-nobody}
 use Rattle.starting.proofs.start_with.Statement.{statement}
 use Rattle.starting.proofs.start_with.Tie as tie
 

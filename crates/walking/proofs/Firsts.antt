@@ -1,0 +1,130 @@
+-- The first line: a start, accepted or refused, or none.
+use Prim.Native.Nat.{ℕ, _≤_}
+use native.Mathlib.Omega.{arith}
+use mathlib.Core.Path.{_≡_, refl, ap, sym, _∙_}
+use mathlib.Core.Bool.{Bool, true, false, cond}
+use mathlib.Core.List.{List}
+use mathlib.Core.Option.{some}
+use lib.ListN.{length, take, drop}
+use lib.Seq.{length-take-le}
+use Rattle.rules.specs.State.{State}
+use Rattle.rules.specs.Fresh.{Start, fresh, refusedFresh, refuses12}
+use Rattle.rules.specs.Steps.{Answer, Outcome, quiet}
+use Rattle.rules.specs.Steps.Answer.{done, refused}
+use Rattle.rules.specs.Runs.{start}
+use Rattle.rules.specs.Text.{Line, lines}
+use Rattle.rules.specs.Script.{startOf, said}
+use Rattle.state.specs.View.{Words, viewOf}
+use Rattle.fresh.specs.declared.Started.{Started}
+use Rattle.fresh.specs.Starting.{Gives}
+use Rattle.fresh.proofs.Starts.{refused-exactly, accepted-fresh, started-sound}
+use Rattle.script.specs.declared.First.{First}
+use Rattle.script.proofs.Short.{start-length}
+use Rattle.reading.specs.Steps.{lineBytes}
+use Rattle.reading.specs.declared.FirstLine.{FirstLine}
+use Rattle.reading.specs.declared.FirstLine.the-variants.{Is as Says, Bad as SaysNothing, Nothing as NoLine}
+use Rattle.reading.specs.Starts.{saidWith, StartAt, BadAt, SaysFirst}
+use Rattle.walking.specs.declared.Beginning.{Beginning}
+use Rattle.walking.specs.declared.Beginning.the-variants.{Fresh, Refused, Bad, Nothing}
+use Rattle.walking.specs.declared.Begun.{Begun}
+use Rattle.walking.specs.Coming.{BeginsFresh, StartsAs, StartedBy, FreshAt, RefusedAt, BeginsAs, Begins}
+
+-- Two starts of which the same is begun: 12 refuses both or none, and then they begin the same state.
+begunBy : Bool → Start → Outcome
+begunBy b a = cond b (quiet (refused 12) refusedFresh) (quiet done (fresh a))
+
+same-refusal : (a c : Start) (b d : Bool) → begunBy b a ≡ begunBy d c → b ≡ d
+unfolding begunBy
+same-refusal a c true true e = refl
+same-refusal a c true false e = let p : refused 12 ≡ done = ap (λ (o : Outcome). o .answer) e in let z : _≡_ {A = ℕ} 0 1 = cc in absurd (omega arith)
+same-refusal a c false true e = let p : done ≡ refused 12 = ap (λ (o : Outcome). o .answer) e in let z : _≡_ {A = ℕ} 0 1 = cc in absurd (omega arith)
+same-refusal a c false false e = refl
+
+module _ (a c : Start) (e : start a ≡ start c) where
+  refused-alike : refuses12 a ≡ refuses12 c
+  unfolding start begunBy
+  refused-alike = same-refusal a c (refuses12 a) (refuses12 c) e
+
+  fresh-alike : refuses12 a ≡ false → fresh a ≡ fresh c
+  unfolding start
+  fresh-alike f =
+      let g : refuses12 c ≡ false = sym refused-alike ∙ f in
+      let p : start a .state ≡ start c .state = ap (λ (o : Outcome). o .state) e in
+      rw (f, g) at p
+
+-- a first line that says a start has bytes
+pub start-bytes : (l : Line) (a : Start) → said startOf l ≡ some a → 4 ≤ lineBytes l
+start-bytes l a e = go (l .ended) refl
+  where
+    go : (b : Bool) → l .ended ≡ b → 4 ≤ lineBytes l
+    go true q = rw q (omega (arith, start-length (l .content) a (rw q at e)))
+    go false q = let p = rw q at e in let z : _≡_ {A = ℕ} 0 1 = cc in absurd (omega arith)
+
+-- a start that the first line says
+module _ (first : First) (starts : List ℕ) (next : ℕ) (r : Started) (w : Words) (g : Gives r w (start (saidWith first starts))) where
+  pub start-refused : (q : Begun) → r .refused ≡ true → q .how ≡ Refused → StartedBy first starts next q w
+  start-refused q h e = rw e (sym (refused-exactly r w (saidWith first starts) g) ∙ h)
+
+  pub start-accepted : r .refused ≡ false → StartedBy first starts next (record { how = Fresh; state = r .state; next = next }) w
+  start-accepted h =
+      (refl, record {
+        accepted = sym (refused-exactly r w (saidWith first starts) g) ∙ h;
+        view = accepted-fresh r w (saidWith first starts) g h;
+        shaped = g .shaped;
+        sound = started-sound r w (saidWith first starts) g;
+      })
+
+-- what was read of it
+module _ (script : List ℕ) (f : FirstLine) (starts : List ℕ) (is : SaysFirst false script f starts) where
+  read : (first : First) (n next : ℕ) → f ≡ Says first n next → StartAt false script first n next starts
+  read first n next e = rw e at is
+
+  pub entries-there : (first : First) (n next : ℕ) → f ≡ Says first n next → n ≤ length starts
+  entries-there first n next e = read first n next e .read .there
+
+  pub entries-length : (first : First) (n next : ℕ) → f ≡ Says first n next → n ≡ length (take n starts)
+  entries-length first n next e = sym (length-take-le n starts (entries-there first n next e))
+
+  module _ (r : Begun) (w : Words) where
+    by-start : (first : First) (n next : ℕ) → StartAt false script first n next starts → (h : Beginning) → StartsAs h (saidWith first (take n starts)) next r w → BeginsAs h script r w
+    by-start first n next p Fresh c =
+        let b = c .1 in
+        let a = saidWith first (take n starts) in
+        let q = p .read in
+        record {
+          line = p .line;
+          shows = rw (c .0) (p .shows);
+          start = q .start;
+          says = q .says;
+          begins =
+              record {
+                accepted = sym (refused-alike a (q .start) (q .same)) ∙ b .accepted;
+                view = b .view ∙ fresh-alike a (q .start) (q .same) (b .accepted);
+                shaped = b .shaped;
+                sound = b .sound;
+              };
+          bytes = c .0 ∙ p .bytes;
+          within = rw (c .0) (p .within);
+        }
+    by-start first n next p Refused c =
+        let q = p .read in
+        record {
+          line = p .line;
+          behind = lines (drop next script);
+          shows = p .shows;
+          start = q .start;
+          says = q .says;
+          refused = sym (refused-alike (saidWith first (take n starts)) (q .start) (q .same)) ∙ c;
+          some-bytes = omega (arith, start-bytes (p .line) (q .start) (q .says), p .within, p .bytes);
+        }
+    by-start first n next p Bad c = absurd c
+    by-start first n next p Nothing c = absurd c
+
+    pub begins-start : (first : First) (n next : ℕ) → f ≡ Says first n next → StartedBy first (take n starts) next r w → Begins script r w
+    begins-start first n next e c = by-start first n next (read first n next e) (r .how) c
+
+    pub begins-bad : f ≡ SaysNothing → r .how ≡ Bad → Begins script r w
+    begins-bad e h = rw h (rw e at is)
+
+    pub begins-none : f ≡ NoLine → r .how ≡ Nothing → Begins script r w
+    begins-none e h = rw h (rw e at is)

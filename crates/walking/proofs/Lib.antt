@@ -1,0 +1,3 @@
+pub mod Lines
+pub mod Firsts
+pub mod Printed
