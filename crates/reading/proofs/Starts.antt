@@ -81,10 +81,10 @@ take-zeros zero m h = refl
 take-zeros (suc n) zero h = absurd (omega arith)
 take-zeros (suc n) (suc m) h = ap (λ (l : List ℕ). 0 ∷ l) (take-zeros n m (omega arith))
 
-entries-few : (k : ℕ) → entriesOf k ≤ 256
+pub entries-few : (k : ℕ) → entriesOf k ≤ 256
 entries-few k = elim (decLt 16 k) [ yes h ↦ rw (lt-ltb 16 k h) (omega arith) | no h ↦ rw (le-ltb 16 k (omega arith)) (square k (omega arith)) ]
 
-zero-start : (a : First) (n : ℕ) → n ≡ entriesOf (a .tasks) → start (saidWith a (take n (replicate 256 0))) ≡ start (startSaid a)
+pub zero-start : (a : First) (n : ℕ) → n ≡ entriesOf (a .tasks) → start (saidWith a (take n (replicate 256 0))) ≡ start (startSaid a)
 zero-start a n e =
     let k = a .tasks in
     elim (decLt 16 k) [

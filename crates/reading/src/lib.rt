@@ -68,7 +68,7 @@ pub fn read_line(script: &[u8], at: usize) -> ReadLine
 
 // ---- starts
 // How many entries the starting clocks of so many tasks have; 12 refuses more than 16 tasks whatever their clocks.
-fn entries_of(tasks: u32) -> usize
+pub fn entries_of(tasks: u32) -> usize
     ensures { λ r. ⌜ r ≡ entriesOf tasks ⌝ }
 {
     if 16 < tasks {

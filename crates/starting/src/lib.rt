@@ -1,8 +1,10 @@
 // The fresh state that a first line says, in words that the caller lends.
+ghost use mathlib.Core.Path.{_≡_};
+ghost use lib.ListN.{replicate};
 ghost use Rattle.rules.specs.Runs.{start as startOf};
 ghost use Rattle.state.specs.View.{words};
 ghost use Rattle.fresh.specs.Starting.{Gives};
-ghost use Rattle.reading.specs.Starts.{saidWith};
+ghost use Rattle.reading.specs.Starts.{saidWith, startSaid};
 use fresh::Started;
 use script::First;
 use script::Maker;
@@ -52,4 +54,38 @@ pub fn start_with(
             clocks,
         ),
     }
+}
+
+fn zeros() -> [u32; 256]
+    ensures { λ r. ⌜ r ≡ replicate 256 0 ⌝ }
+{
+    [0u32; 256]
+}
+
+// With clocks that are all zero.
+pub fn start(
+    a: First,
+    slots: &mut [u32; 320],
+    tasks: &mut [u32; 32],
+    sizes: &mut [u32; 64],
+    rows: &mut [u32; 1024],
+    last: &mut [u32; 16],
+    makers: &mut [u32; 512],
+    clocks: &mut [u32; 256],
+) -> Started
+    ensures { λ r. ⌜ Gives r (words (now (slots .exit)) (now (tasks .exit)) (now (sizes .exit)) (now (rows .exit)) (now (last .exit)) (now (makers .exit)) (now (clocks .exit))) (startOf (startSaid a)) ⌝ }
+{
+    let starts = zeros();
+    let n = reading::entries_of(a.tasks);
+    start_with(
+        a,
+        &starts[..n],
+        slots,
+        tasks,
+        sizes,
+        rows,
+        last,
+        makers,
+        clocks,
+    )
 }

@@ -1,124 +1,102 @@
--- The first line: the start that it says, refused or accepted, and the lines behind it; the whole script.
+-- The first line: what it came to, and the lines behind it; the whole script.
 use Prim.Native.Nat.{ℕ, _+_, _*_, _-_, _/_, _≤_, _<_}
 use native.Mathlib.Nat.{div-add-mod'}
-use native.Mathlib.Decide.{decLe}
 use native.Mathlib.Omega.{arith}
-use mathlib.Core.Path.{_≡_, refl, ap, sym, subst, _∙_}
-use mathlib.Core.Bool.{true, false}
+use mathlib.Core.Path.{_≡_, refl, sym}
 use mathlib.Core.List.{List, [], _∷_, _++_}
-use mathlib.Core.Option.{Option, none, some}
-use lib.ListN.{length, take, drop}
+use lib.ListN.{length, drop}
 use lib.Seq.{length-take-le}
 use Rattle.rules.specs.Sizes.{slotCount}
-use Rattle.rules.specs.Fresh.{Start, refuses12}
-use Rattle.rules.specs.Runs.{start}
-use Rattle.rules.specs.Text.{Line, lines}
-use Rattle.rules.specs.Script.{outcomeText, startOf, trace, traceFrom, program, longest, printed}
+use Rattle.rules.specs.Text.{lines}
+use Rattle.rules.specs.Script.{outcomeText, trace, program, longest, printed}
 use Rattle.rules.proofs.Scripts.{long-printed, short-printed}
 use Rattle.tables.specs.Table.{table}
-use Rattle.text.specs.Reading.{Within, NextIs}
 use Rattle.text.specs.Writing.{Appended}
-use Rattle.text.specs.declared.NextLine.{NextLine}
-use Rattle.text.specs.declared.NextLine.the-variants.{Ended, Unended, End}
-use Rattle.text.proofs.Buffer.{appended-none, appended-length}
+use Rattle.text.proofs.Buffer.{appended-none}
 use Rattle.replies.specs.declared.Reply.the-variants.{Done}
 use Rattle.words.specs.View.{grantsOf}
 use Rattle.state.specs.declared.BatchSemaphore.{BatchSemaphore}
-use Rattle.state.specs.View.{Words, viewOf, outcomeOf, Fit}
-use Rattle.fresh.specs.declared.Started.{Started}
-use Rattle.fresh.specs.Starting.{Gives}
-use Rattle.fresh.proofs.Starts.{refused-exactly, accepted-fresh, started-sound}
-use Rattle.script.specs.declared.Opening.{Opening}
-use Rattle.script.specs.declared.Opening.the-variants.{Is, Bad}
-use Rattle.script.specs.declared.First.{First}
-use Rattle.script.specs.Opening.{opened, startWithin}
-use Rattle.script.proofs.Within.{trace-within}
-use Rattle.script.proofs.Short.{start-length}
-use Rattle.starting.specs.Said.{startSaid}
+use Rattle.state.specs.View.{Words, words, viewOf, outcomeOf, ShapedAll, Fit}
+use Rattle.walking.specs.declared.Begun.{Begun}
+use Rattle.walking.specs.declared.Beginning.the-variants.{Fresh, Refused, Bad, Nothing}
+use Rattle.walking.specs.Coming.{Begins}
+use Rattle.walking.proofs.Firsts.{start-bytes}
+use Rattle.walking.proofs.Printed.{fresh-prints, refused-prints, bad-prints, nothing-prints}
 use Rattle.printing.specs.Printed.{lineRoom, Printed}
 use Rattle.printing.proofs.Chain.{printed-then, printed-longer}
-use Rattle.trace.specs.Running.{stepBytes, byteRoom, badRoom, room, firstOf, Prints}
+use Rattle.trace.specs.Running.{byteRoom, badRoom, room, firstOf, Prints}
 
 -- The line of the fresh state, and the lines behind it.
-pub fresh-printed : (k : ℕ) {s : BatchSemaphore} {w : Words} {gs old mid new ys : List ℕ} {n r : ℕ} → lineRoom + k ≤ length old → Fit s w gs
-    → ((v : Words) → Printed lineRoom old 0 (outcomeText (outcomeOf (record { reply = Done; count = 0; state = s }) v gs)) mid n) → Printed k mid n ys new r
-    → Printed (lineRoom + k) old 0 (firstOf (viewOf s w) ++ ys) new r
+pub fresh-printed : (k : ℕ) {s : BatchSemaphore} {w : Words} {gs old mid new ys : List ℕ} {n r : ℕ} → lineRoom 0 + k ≤ length old → Fit s w gs
+    → ((v : Words) → Printed (lineRoom 0) old 0 (outcomeText (outcomeOf (record { reply = Done; count = 0; state = s }) v gs)) mid n) → Printed k mid n ys new r
+    → Printed (lineRoom 0 + k) old 0 (firstOf (viewOf s w) ++ ys) new r
 unfolding grantsOf table
-fresh-printed k {w = w} h f a b = printed-then lineRoom k (omega arith) (a w) b
+fresh-printed k {w = w} h f a b = printed-then (lineRoom 0) k (omega arith) (a w) b
 
-pub fresh-room : (k : ℕ) {s : BatchSemaphore} {w : Words} {gs old mid : List ℕ} {t : Words → List ℕ} {n : ℕ} → lineRoom + k ≤ length old → length mid ≡ length old → Fit s w gs → ((v : Words) → Printed lineRoom old 0 (t v) mid n) → n + k ≤ length mid
+pub fresh-room : (k : ℕ) {s : BatchSemaphore} {w : Words} {gs old mid : List ℕ} {t : Words → List ℕ} {n : ℕ} → lineRoom 0 + k ≤ length old → length mid ≡ length old → Fit s w gs → ((v : Words) → Printed (lineRoom 0) old 0 (t v) mid n) → n + k ≤ length mid
 fresh-room k {w = w} h l f p = omega (arith, p w .written .end, p w .short)
 
--- Refused or accepted, a start gives what every step may count on.
-pub started-fit : (a : Start) {r : Started} {w : Words} {gs : List ℕ} → Gives r w (start a) → length gs ≡ slotCount * 3 → Fit (r .state) w gs
-started-fit a {r = r} {w = w} g l = record { shaped = g .shaped; grants = l; sound = started-sound r w a g }
+-- The whole script, by what its first line came to.
+module _ {script : List ℕ} {r : Begun} {w : Words} (b : Begins script r w) where
+  pub whole-within : r .how ≡ Fresh → r .next ≤ length script
+  whole-within q = b .fresh q .within
 
-module _ (a : Start) {r : Started} {w : Words} (g : Gives r w (start a)) {old new : List ℕ} {e : ℕ} (ls : List Line) where
-  pub first-refused : (k : ℕ) → r .refused ≡ true → Appended old 0 (114 ∷ 49 ∷ 50 ∷ 10 ∷ []) new e → Printed (lineRoom + k) old 0 (traceFrom (some a) ls) new e
-  first-refused k h p =
-      let f : refuses12 a ≡ true = sym (refused-exactly r w a g) ∙ h in
-      rw f (record { written = p; short = omega arith })
+  first-short : r .how ≡ Fresh → lineRoom 0 + byteRoom * (length script - r .next) ≤ room script
+  first-short q = let f = b .fresh q in omega (arith, start-bytes (f .line) (f .start) (f .says), f .bytes, f .within)
 
-  pub first-accepted : {k : ℕ} → r .refused ≡ false → Printed k old 0 (firstOf (viewOf (r .state) w) ++ trace (viewOf (r .state) w) ls) new e → Printed k old 0 (traceFrom (some a) ls) new e
-  unfolding start
-  first-accepted h b =
-      let f : refuses12 a ≡ false = sym (refused-exactly r w a g) ∙ h in
-      rw f (rw (accepted-fresh r w a g h) at b)
+  pub whole-room : {m : ℕ} → r .how ≡ Fresh → room script ≤ m → lineRoom 0 + byteRoom * (length script - r .next) ≤ m
+  whole-room q h = omega (arith, first-short q)
 
--- room for the first line
-said-length : (line : List ℕ) (o : Option Start) (a : Start) → startOf line ≡ o → some a ≡ startWithin o → stepBytes ≤ length line + 1
-said-length line none a e q = let z : _≡_ {A = ℕ} 0 1 = cc in absurd (omega arith)
-said-length line (some b) a e q = omega (arith, start-length line b e)
+  pub refused-room : (m : ℕ) → r .how ≡ Refused → room script ≤ m → badRoom ≤ m
+  refused-room m q h = omega (arith, b .refused q .some-bytes)
 
--- What was read of the first line is the start, its maker named within a byte.
-module _ (script : List ℕ) (e : ℕ) (before : e < length script) (p : Opening) (is : opened p ≡ startWithin (startOf (take e script))) where
-  abbrev rest : List Line
-  rest = lines (drop (e + 1) script)
+  pub bad-room : (m : ℕ) → r .how ≡ Bad → room script ≤ m → badRoom ≤ m
+  bad-room m q h = omega (arith, b .bad q .some-bytes)
 
-  told : traceFrom (opened p) rest ≡ traceFrom (startOf (take e script)) rest
-  told = ap (λ (o : Option Start). traceFrom o rest) is ∙ trace-within (startOf (take e script)) rest
+  pub whole-fit : {gs : List ℕ} → r .how ≡ Fresh → length gs ≡ slotCount * 3 → Fit (r .state) w gs
+  whole-fit q l = let g = b .fresh q .begins in record { shaped = g .shaped; grants = l; sound = g .sound }
 
-  first-short : (a : First) → p ≡ Is a → lineRoom + byteRoom * (length script - (e + 1)) ≤ room script
-  first-short a q =
-      let b : some (startSaid a) ≡ startWithin (startOf (take e script)) = sym (ap opened q) ∙ is in
-      let l : length (take e script) ≡ e = length-take-le e script (omega arith) in
-      omega (arith, said-length (take e script) (startOf (take e script)) (startSaid a) refl b)
+  module _ {old new : List ℕ} {e : ℕ} where
+    pub whole-fresh : r .how ≡ Fresh
+        → Printed (lineRoom 0 + byteRoom * (length script - r .next)) old 0 (firstOf (viewOf (r .state) w) ++ trace (viewOf (r .state) w) (lines (drop (r .next) script))) new e
+        → Printed (room script) old 0 (program (lines script)) new e
+    whole-fresh q p = rw (fresh-prints (b .fresh q)) (printed-longer (first-short q) p)
 
-  pub first-room : (a : First) (m : ℕ) → p ≡ Is a → room script ≤ m → lineRoom + byteRoom * (length script - (e + 1)) ≤ m
-  first-room a m q h = omega (arith, first-short a q)
+    pub whole-refused : r .how ≡ Refused → Appended old 0 (114 ∷ 49 ∷ 50 ∷ 10 ∷ []) new e → Printed (room script) old 0 (program (lines script)) new e
+    whole-refused q a = rw (refused-prints (b .refused q)) (record { written = a; short = omega (arith, b .refused q .some-bytes) })
 
-  module _ (old new : List ℕ) (r : ℕ) where
-    pub first-start : (a : First) → p ≡ Is a → Printed (lineRoom + byteRoom * (length script - (e + 1))) old 0 (traceFrom (some (startSaid a)) rest) new r → Printed (room script) old 0 (traceFrom (startOf (take e script)) rest) new r
-    first-start a q b = printed-longer (first-short a q) (rw (ap (λ (x : Opening). traceFrom (opened x) rest) (sym q) ∙ told) at b)
+    pub whole-bad : r .how ≡ Bad → Appended old 0 (98 ∷ 97 ∷ 100 ∷ 10 ∷ []) new e → Printed (room script) old 0 (program (lines script)) new e
+    whole-bad q a = rw (bad-prints (b .bad q)) (record { written = a; short = omega (arith, b .bad q .some-bytes) })
 
-    pub first-bad : p ≡ Bad → Appended old 0 (98 ∷ 97 ∷ 100 ∷ 10 ∷ []) new r → Printed (room script) old 0 (traceFrom (startOf (take e script)) rest) new r
-    first-bad q w =
-        rw (← (ap (λ (x : Opening). traceFrom (opened x) rest) (sym q) ∙ told)) (record { written = w; short = omega arith })
+  pub whole-none : {old : List ℕ} → r .how ≡ Nothing → Printed (room script) old 0 (program (lines script)) old 0
+  whole-none {old} q =
+      rw (nothing-prints script (b .nothing q)) (record { written = appended-none old 0; short = omega arith })
 
--- The whole script.
-module _ (script : List ℕ) (l : NextLine) (is : NextIs script 0 l) where
-  pub unended-room : (m : ℕ) → l ≡ Unended → room script ≤ m → badRoom ≤ m
-  unended-room m p h =
-      let k : 0 < length script = subst (λ (x : NextLine). Within script 0 x) p (is .within) in
-      omega arith
+-- the words that a fresh state stands in are of their lengths
+module _ {script : List ℕ} {r : Begun} {slots tasks sizes rows last makers clocks : List ℕ} (b : Begins script r (words slots tasks sizes rows last makers clocks)) (q : r .how ≡ Fresh) where
+  shaped : ShapedAll (r .state) (words slots tasks sizes rows last makers clocks)
+  shaped = b .fresh q .begins .shaped
 
-  module _ (old new : List ℕ) (r : ℕ) where
-    pub whole-ended : (e : ℕ) → l ≡ Ended e → Printed (room script) old 0 (traceFrom (startOf (take e script)) (lines (drop (e + 1) script))) new r → Printed (room script) old 0 (program (lines script)) new r
-    unfolding program
-    whole-ended e p b =
-        let z : e - 0 ≡ e = omega arith in
-        let first : lines script ≡ record { content = take (e - 0) script; ended = true } ∷ lines (drop (e + 1) script) = rw p at is .shows in
-        rw (first, z) b
+  pub slots-there : 320 ≡ length slots
+  slots-there = sym (shaped .head .slot-words)
 
-    pub whole-unended : l ≡ Unended → Appended old 0 (98 ∷ 97 ∷ 100 ∷ 10 ∷ []) new r → Printed (room script) old 0 (program (lines script)) new r
-    unfolding program
-    whole-unended p w =
-        let k : 0 < length script = subst (λ (x : NextLine). Within script 0 x) p (is .within) in
-        rw (rw p at is .shows) (record { written = w; short = omega arith })
+  pub tasks-there : 32 ≡ length tasks
+  tasks-there = sym (shaped .head .task-words)
 
-  pub whole-end : (old : List ℕ) → l ≡ End → Printed (room script) old 0 (program (lines script)) old 0
-  unfolding program
-  whole-end old p = rw (rw p at is .shows) (record { written = appended-none old 0; short = omega arith })
+  pub sizes-there : 64 ≡ length sizes
+  sizes-there = sym (shaped .ring .places)
+
+  pub rows-there : 1024 ≡ length rows
+  rows-there = sym (shaped .ring .entries)
+
+  pub last-there : 16 ≡ length last
+  last-there = sym (shaped .latest)
+
+  pub makers-there : 512 ≡ length makers
+  makers-there = sym (shaped .makers)
+
+  pub clocks-there : 256 ≡ length clocks
+  clocks-there = sym (shaped .clocks)
 
 -- More than 65,536 bytes print only `long`.
 module _ (script old new : List ℕ) (r : ℕ) where

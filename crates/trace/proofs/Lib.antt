@@ -1,4 +1,4 @@
-pub mod Lines
+pub mod Rooms
 pub mod Turns
 pub mod Firsts
 pub mod Once

@@ -1,9 +1,9 @@
 -- The first line: a start, accepted or refused, or none.
 use Prim.Native.Nat.{ℕ, _≤_}
 use native.Mathlib.Omega.{arith}
-use mathlib.Core.Path.{_≡_, refl, ap, sym, _∙_}
+use mathlib.Core.Path.{_≡_, refl, ap, sym, subst, _∙_}
 use mathlib.Core.Bool.{Bool, true, false, cond}
-use mathlib.Core.List.{List}
+use mathlib.Core.List.{List, []}
 use mathlib.Core.Option.{some}
 use lib.ListN.{length, take, drop}
 use lib.Seq.{length-take-le}
@@ -27,7 +27,7 @@ use Rattle.reading.specs.Starts.{saidWith, StartAt, BadAt, SaysFirst}
 use Rattle.walking.specs.declared.Beginning.{Beginning}
 use Rattle.walking.specs.declared.Beginning.the-variants.{Fresh, Refused, Bad, Nothing}
 use Rattle.walking.specs.declared.Begun.{Begun}
-use Rattle.walking.specs.Coming.{BeginsFresh, StartsAs, StartedBy, FreshAt, RefusedAt, BeginsAs, Begins}
+use Rattle.walking.specs.Coming.{BeginsFresh, StartsAs, StartedBy, FreshAt, RefusedAt, Begins}
 
 -- Two starts of which the same is begun: 12 refuses both or none, and then they begin the same state.
 begunBy : Bool → Start → Outcome
@@ -66,13 +66,28 @@ module _ (first : First) (starts : List ℕ) (next : ℕ) (r : Started) (w : Wor
   start-refused q h e = rw e (sym (refused-exactly r w (saidWith first starts) g) ∙ h)
 
   pub start-accepted : r .refused ≡ false → StartedBy first starts next (record { how = Fresh; state = r .state; next = next }) w
-  start-accepted h =
-      (refl, record {
-        accepted = sym (refused-exactly r w (saidWith first starts) g) ∙ h;
-        view = accepted-fresh r w (saidWith first starts) g h;
-        shaped = g .shaped;
-        sound = started-sound r w (saidWith first starts) g;
-      })
+  start-accepted h = (
+    refl,
+    record {
+      accepted = sym (refused-exactly r w (saidWith first starts) g) ∙ h;
+      view = accepted-fresh r w (saidWith first starts) g h;
+      shaped = g .shaped;
+      sound = started-sound r w (saidWith first starts) g;
+    },
+  )
+
+-- what there is to say, by what it came to
+BeginsAs : Beginning → List ℕ → Begun → Words → Type 0
+BeginsAs Fresh script r w = FreshAt script r w
+BeginsAs Refused script r w = RefusedAt script
+BeginsAs Bad script r w = BadAt false script
+BeginsAs Nothing script r w = lines script ≡ []
+
+begins : (script : List ℕ) (r : Begun) (w : Words) → BeginsAs (r .how) script r w → Begins script r w
+unfolding BeginsAs
+begins script r w b =
+    let as-is : (h : Beginning) → r .how ≡ h → BeginsAs h script r w = λ h q. subst (λ (x : Beginning). BeginsAs x script r w) q b in
+    record { fresh = as-is Fresh; refused = as-is Refused; bad = as-is Bad; nothing = as-is Nothing }
 
 -- what was read of it
 module _ (script : List ℕ) (f : FirstLine) (starts : List ℕ) (is : SaysFirst false script f starts) where
@@ -87,6 +102,7 @@ module _ (script : List ℕ) (f : FirstLine) (starts : List ℕ) (is : SaysFirst
 
   module _ (r : Begun) (w : Words) where
     by-start : (first : First) (n next : ℕ) → StartAt false script first n next starts → (h : Beginning) → StartsAs h (saidWith first (take n starts)) next r w → BeginsAs h script r w
+    unfolding BeginsAs
     by-start first n next p Fresh c =
         let b = c .1 in
         let a = saidWith first (take n starts) in
@@ -121,10 +137,15 @@ module _ (script : List ℕ) (f : FirstLine) (starts : List ℕ) (is : SaysFirst
     by-start first n next p Nothing c = absurd c
 
     pub begins-start : (first : First) (n next : ℕ) → f ≡ Says first n next → StartedBy first (take n starts) next r w → Begins script r w
-    begins-start first n next e c = by-start first n next (read first n next e) (r .how) c
+    begins-start first n next e c = begins script r w (by-start first n next (read first n next e) (r .how) c)
+
+    by-how : (h : Beginning) → r .how ≡ h → BeginsAs h script r w → Begins script r w
+    by-how h q b = begins script r w (subst (λ (x : Beginning). BeginsAs x script r w) (sym q) b)
 
     pub begins-bad : f ≡ SaysNothing → r .how ≡ Bad → Begins script r w
-    begins-bad e h = rw h (rw e at is)
+    unfolding BeginsAs
+    begins-bad e h = by-how Bad h (rw e at is)
 
     pub begins-none : f ≡ NoLine → r .how ≡ Nothing → Begins script r w
-    begins-none e h = rw h (rw e at is)
+    unfolding BeginsAs
+    begins-none e h = by-how Nothing h (rw e at is)

@@ -90,11 +90,8 @@ pub record RefusedAt (script : List ℕ) : Type 0 where
   pub refused : refuses12 start ≡ true
   pub some-bytes : 0 < length script
 
-abbrev pub BeginsAs : Beginning → List ℕ → Begun → Words → Type 0
-BeginsAs Fresh script r w = FreshAt script r w
-BeginsAs Refused script r w = RefusedAt script
-BeginsAs Bad script r w = BadAt false script
-BeginsAs Nothing script r w = lines script ≡ []
-
-abbrev pub Begins : List ℕ → Begun → Words → Type 0
-Begins script r w = BeginsAs (r .how) script r w
+pub record Begins (script : List ℕ) (r : Begun) (w : Words) : Type 0 where
+  pub fresh : r .how ≡ Fresh → FreshAt script r w
+  pub refused : r .how ≡ Refused → RefusedAt script
+  pub bad : r .how ≡ Bad → BadAt false script
+  pub nothing : r .how ≡ Nothing → lines script ≡ []

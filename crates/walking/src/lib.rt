@@ -83,7 +83,17 @@ fn begin_with(
 ) -> Begun
     ensures { λ r. ⌜ StartedBy first (now (starts .entry)) next r (words (now (slots .exit)) (now (tasks .exit)) (now (sizes .exit)) (now (rows .exit)) (now (last .exit)) (now (makers .exit)) (now (clocks .exit))) ⌝ }
 {
-    let r = starting::start_with(first, starts, slots, tasks, sizes, rows, last, makers, clocks);
+    let r = starting::start_with(
+        first,
+        starts,
+        slots,
+        tasks,
+        sizes,
+        rows,
+        last,
+        makers,
+        clocks,
+    );
     if r.refused {
         return unbegun(Beginning::Refused);
     }
@@ -110,7 +120,11 @@ pub fn begin(
 {
     let mut starts = [0u32; 256];
     match reading::read_first(script, false, &mut starts) {
-        FirstLine::Is { first, entries, next } => begin_with(
+        FirstLine::Is {
+            first,
+            entries,
+            next,
+        } => begin_with(
             first,
             &starts[..entries],
             next,

@@ -20,21 +20,27 @@ abbrev μ-loop : tie.MeasureT-loop
 loop-holds : tie.Need-loop-holds Inv-loop μ-loop
 loop-holds c = search (onward-none, needs)
 
-read-line-requires : tie.Need-read-line-requires Inv-loop μ-loop
-read-line-requires c κs = search needs
+walk-requires : tie.Need-walk-requires Inv-loop μ-loop
+walk-requires c κs = search needs
 
-run-line-requires : tie.Need-run-line-requires Inv-loop μ-loop
-run-line-requires c κs = (search (line-room, needs), search needs)
+print-walked-requires : tie.Need-print-walked-requires Inv-loop μ-loop
+print-walked-requires c κs =
+    let t = c .before .before .before .before .before .before .before .before .before .before .before .before .before .before .before .before .before .before in
+    let l = t .before .before .before .before .before .before .before .before .before .before .loop .inv in
+    (t .walk .ensures .few, t .walk .ensures .fit .grants, line-room (l .0) (t .walk .ensures))
 
 loop-less : tie.Need-loop-less Inv-loop μ-loop
-loop-less c = omega (arith, c .before .before .before .before .before .before .before .before .before .before .before .before .before .before .before .before .before .before .before .before .before .before .before .before .before .before .before .before .before .read-line .ensures)
+loop-less c =
+    let p = c .before .before .before in
+    let t = p .before .before .before .before .before .before .before .before .before .before .before .before .before .before .before .before .before .before .before in
+    omega (arith, t .walk .ensures .on, t .walk .ensures .within)
 
 loop-again : tie.Need-loop-again Inv-loop μ-loop
 loop-again c =
-    let t = c .before .before .before .before .before .before .before .before .before .before .before .before .before .before .before .before .before .before .before in
-    let r = t .before .before .before .before .before .before .before .before .before .before in
-    let l = r .before .before .loop .inv in
-    (onward-more (l .0) (r .read-line .ensures) (l .1 .sound) (t .run-line .ensures .printed) (t .run-line .ensures .state), t .run-line .ensures .fit)
+    let p = c .before .before .before in
+    let t = p .before .before .before .before .before .before .before .before .before .before .before .before .before .before .before .before .before .before .before in
+    let l = t .before .before .before .before .before .before .before .before .before .before .loop .inv in
+    (onward-more (l .0) (t .walk .ensures) (p .print-walked .ensures), t .walk .ensures .fit)
 
 same-length : tie.Need-same-length Inv-loop μ-loop
 same-length c = search (onward-length, needs)
@@ -73,8 +79,8 @@ run-lines-spec =
     Inv-loop
     μ-loop
     loop-holds
-    read-line-requires
-    run-line-requires
+    walk-requires
+    print-walked-requires
     loop-less
     loop-again
     same-length

@@ -1,0 +1,31 @@
+-- `trace::print_walked`: `bad`, or the step's line.
+use borrow.Author.Needs.{needs}
+use Rattle.trace.proofs.Turns.{bad-room, step-room, bad-walked, step-walked}
+use Rattle.trace.proofs.print_walked.Statement.{statement}
+use Rattle.trace.proofs.print_walked.Tie as tie
+
+slice-aggregate-put : tie.Need-slice-aggregate-put
+slice-aggregate-put c = search needs
+
+put-requires : tie.Need-put-requires
+put-requires c κs = search (bad-room, needs)
+
+same-length : tie.Need-same-length
+same-length c = search needs
+
+returns : tie.Need-returns
+returns c = search (bad-walked, needs)
+
+print-step-requires : tie.Need-print-step-requires
+print-step-requires c κs = search (step-room, needs)
+
+same-length-2 : tie.Need-same-length-2
+same-length-2 c = search needs
+
+returns-2 : tie.Need-returns-2
+returns-2 c = search (step-walked, needs)
+
+pub print-walked-spec : {M : Type 1} → statement M
+print-walked-spec =
+    tie.close
+    (tie.spec slice-aggregate-put put-requires same-length returns print-step-requires same-length-2 returns-2)
