@@ -68,7 +68,7 @@ apply() {
 # What the log of a run says: where the sample showed the fault, or that the program did not end well; or that
 # nothing was found.
 found() {
-    shown=$(sed -n 's/.*found ".*\(script [0-9]*, line [0-9]*\).*/found: \1/p; s/^FAIL: the native program at -O0 \(did not end.*\|was ended.*\)/found: it \1/p' "$copy/log" | head -n 1)
+    shown=$(sed -n 's/.*found ".*\(script [0-9]*, line [0-9]*\).*/found: \1/p; s/^FAIL: the native program at -O0 \(did not end.*\|was ended.*\|failed, .*\)/found: it \1/p' "$copy/log" | head -n 1)
     if [ -n "$shown" ]; then
         echo "$shown"
     elif grep -q '^ok: the native program at -O0' "$copy/log"; then
