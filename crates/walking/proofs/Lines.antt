@@ -8,39 +8,19 @@ use mathlib.Core.Option.{Option, none, some}
 use Rattle.rules.specs.declared.Step.{Step}
 use Rattle.rules.specs.State.{State}
 use Rattle.rules.specs.Sound.{Sound}
-use Rattle.rules.specs.Steps.{Outcome}
-use Rattle.rules.specs.Refusals.{refusal}
-use Rattle.rules.specs.Runs.{unless, step}
 use Rattle.rules.specs.Script.{stepOf, said}
-use Rattle.tables.specs.Table.{table}
-use Rattle.words.specs.View.{grantsOf}
 use Rattle.state.specs.declared.BatchSemaphore.{BatchSemaphore}
 use Rattle.state.specs.declared.Stepped.{Stepped}
-use Rattle.state.specs.View.{Words, viewOf, outcomeOf, Fit}
-use Rattle.stepping.specs.Contract.{Refuses, StepsOn}
+use Rattle.state.specs.View.{Words, viewOf, Fit}
+use Rattle.stepping.specs.Contract.{StepsOn}
+use Rattle.stepping.proofs.Carried.{carried}
 use Rattle.script.specs.declared.Parsed.{Parsed}
 use Rattle.script.specs.declared.Parsed.the-variants.{Is, Bad}
 use Rattle.script.specs.Saying.{parsed, within}
 use Rattle.script.proofs.Within.{step-within}
 use Rattle.reading.specs.declared.ReadLine.{ReadLine}
 use Rattle.reading.specs.Steps.{SaysAt}
-use Rattle.walking.specs.declared.Walked.{Walked}
 use Rattle.walking.specs.Coming.{comesTo, Comes}
-
--- A step that counts on what 14 does not refuse says and does what document 01's step says and does, refused or not.
-module _ (s : BatchSemaphore) (w : Words) (gs : List ℕ) (a : Step) (r : Stepped) (v : Words) (hs : List ℕ) where
-  refused-outcome : (n : ℕ) → Refuses n s w gs r v hs → outcomeOf r v hs ≡ unless (some n) a (viewOf s w)
-  unfolding grantsOf table
-  refused-outcome n k =
-      λ i. record { answer = k .answer i; grants = grantsOf (k .count i) hs; state = viewOf (k .state i) (k .words i) }
-
-  carried : StepsOn s w gs a r v hs → outcomeOf r v hs ≡ step a (viewOf s w)
-  unfolding step
-  carried h = go (refusal a (viewOf s w)) refl
-    where
-      go : (o : Option ℕ) → refusal a (viewOf s w) ≡ o → outcomeOf r v hs ≡ unless o a (viewOf s w)
-      go none e = h .accepted e
-      go (some n) e = refused-outcome n (h .refused n e)
 
 -- what was read of the line is its step, named within a byte, which comes to the same
 same-step : (s : State) → Sound s → (o : Option Step) → comesTo (within o) s ≡ comesTo o s
