@@ -1,5 +1,5 @@
 -- Texts written one behind the other, and how long they can get.
-use Prim.Native.Nat.{ℕ, _+_, _*_, _≤_, _<_}
+use Prim.Native.Nat.{ℕ, _+_, _≤_, _<_}
 use native.Mathlib.Omega.{arith}
 use mathlib.Core.Path.{_≡_}
 use mathlib.Core.Bool.{Bool, true, false}
@@ -7,7 +7,6 @@ use mathlib.Core.List.{List, [], _∷_, _++_}
 use borrow.Author.Tests.{lt-ltb, le-ltb}
 use lib.ListN.{length, length-append}
 use Rattle.rules.specs.declared.Slot.{Slot}
-use Rattle.rules.specs.Sizes.{largest}
 use Rattle.rules.specs.Text.{space, comma, digits}
 use Rattle.rules.specs.Script.{answerText, closedText, takerText}
 use Rattle.rules.proofs.Decimal.{digits-length}

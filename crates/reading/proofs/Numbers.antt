@@ -1,13 +1,12 @@
 -- Starting clocks read entry by entry.
 use Prim.Native.Nat.{ℕ, suc, min, _+_, _≤_, _<_}
-use native.Mathlib.Numerals.{add-one}
 use native.Mathlib.Omega.{arith}
 use mathlib.Core.Path.{_≡_, refl, ap, sym, subst, _∙_}
 use mathlib.Core.List.{List, [], _∷_, _++_}
 use mathlib.Core.Option.{Option, none, some}
 use lib.ListN.{length, take, drop, set, length-set, length-append}
 use lib.Seq.{append-snoc, set-out, take-suc-set}
-use Rattle.rules.specs.Text.{space, fields, before, numberOf}
+use Rattle.rules.specs.Text.{space, fields}
 use Rattle.rules.specs.Script.{_>>=_, numbersOf}
 use Rattle.rules.proofs.Parts.{parts-front}
 use Rattle.text.specs.declared.Reading.{Reading}

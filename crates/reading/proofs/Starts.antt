@@ -9,11 +9,11 @@ use mathlib.Core.List.{List, [], _∷_}
 use mathlib.Core.Option.{Option, none, some, Option·map}
 use lib.ListN.{length, take, drop, replicate, length-replicate}
 use lib.Seq.{take-length, length-take-le}
-use borrow.Author.Tests.{lt-ltb, le-ltb, le-leb, lt-leb, eq-eqb, ne-eqb}
+use borrow.Author.Tests.{lt-ltb, le-ltb, le-leb, lt-leb, ne-eqb}
 use Rattle.rules.specs.Fresh.{Start, refuses12}
 use Rattle.rules.specs.Runs.{start}
-use Rattle.rules.specs.Text.{space, fields, before, Line, lines}
-use Rattle.rules.specs.Script.{_>>=_, numbersOf, startBy, startOf}
+use Rattle.rules.specs.Text.{space, fields, lines}
+use Rattle.rules.specs.Script.{_>>=_, numbersOf, startOf}
 use Rattle.rules.proofs.Laws.{refused-start}
 use Rattle.rules.proofs.Parts.{parts-front}
 use Rattle.rules.proofs.Scripts.{many-tasks}

@@ -6,7 +6,7 @@ use mathlib.Core.Bool.{true, false}
 use mathlib.Core.List.{List, _∷_}
 use lib.ListN.{length, take, drop, length-take, length-drop}
 use lib.Seq.{length-take-le}
-use Rattle.rules.specs.Text.{Line, lines}
+use Rattle.rules.specs.Text.{Line}
 use Rattle.rules.proofs.Parts.{no-line}
 use Rattle.text.specs.Reading.{Within, NextIs}
 use Rattle.text.specs.declared.NextLine.{NextLine}

@@ -1,5 +1,5 @@
 -- Room for a line by its bytes: a line of a letter and the actor takes no permits, and any other that says a step has at least six bytes.
-use Prim.Native.Nat.{ℕ, _+_, _*_, _-_, _≤_, _<_}
+use Prim.Native.Nat.{ℕ, _+_, _*_, _-_, _≤_}
 use native.Mathlib.Omega.{arith}
 use mathlib.Core.Path.{_≡_, refl, ap, sym, subst, _∙_}
 use mathlib.Core.Bool.{Bool, true, false, cond}
@@ -9,7 +9,6 @@ use lib.ListN.{length, length-append}
 use Rattle.rules.specs.declared.TaskId.{TaskId}
 use Rattle.rules.specs.declared.Act.{Act}
 use Rattle.rules.specs.declared.Act.the-variants.{Close, Sleep, Finish}
-use Rattle.rules.specs.declared.Grant.{Grant}
 use Rattle.rules.specs.declared.Step.{Step}
 use Rattle.rules.specs.State.{State}
 use Rattle.rules.specs.Steps.{_does_, Outcome, effectOf}

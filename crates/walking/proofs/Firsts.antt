@@ -7,14 +7,13 @@ use mathlib.Core.List.{List, []}
 use mathlib.Core.Option.{some}
 use lib.ListN.{length, take, drop}
 use lib.Seq.{length-take-le}
-use Rattle.rules.specs.State.{State}
 use Rattle.rules.specs.Fresh.{Start, fresh, refusedFresh, refuses12}
-use Rattle.rules.specs.Steps.{Answer, Outcome, quiet}
+use Rattle.rules.specs.Steps.{Outcome, quiet}
 use Rattle.rules.specs.Steps.Answer.{done, refused}
 use Rattle.rules.specs.Runs.{start}
 use Rattle.rules.specs.Text.{Line, lines}
 use Rattle.rules.specs.Script.{startOf, said}
-use Rattle.state.specs.View.{Words, viewOf}
+use Rattle.state.specs.View.{Words}
 use Rattle.fresh.specs.declared.Started.{Started}
 use Rattle.fresh.specs.Starting.{Gives}
 use Rattle.fresh.proofs.Starts.{refused-exactly, accepted-fresh, started-sound}
@@ -27,7 +26,7 @@ use Rattle.reading.specs.Starts.{saidWith, StartAt, BadAt, SaysFirst}
 use Rattle.walking.specs.declared.Beginning.{Beginning}
 use Rattle.walking.specs.declared.Beginning.the-variants.{Fresh, Refused, Bad, Nothing}
 use Rattle.walking.specs.declared.Begun.{Begun}
-use Rattle.walking.specs.Coming.{BeginsFresh, StartsAs, StartedBy, FreshAt, RefusedAt, Begins}
+use Rattle.walking.specs.Coming.{StartsAs, StartedBy, FreshAt, RefusedAt, Begins}
 
 -- Two starts of which the same is begun: 12 refuses both or none, and then they begin the same state.
 begunBy : Bool → Start → Outcome

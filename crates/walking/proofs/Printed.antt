@@ -1,18 +1,17 @@
 -- What the rules print, line by line, is the text of what a line came to.
 use Prim.Native.Nat.{ℕ}
-use mathlib.Core.Path.{_≡_, refl, ap, sym, _∙_}
-use mathlib.Core.Bool.{true, false}
-use mathlib.Core.List.{List, [], _∷_, _++_}
+use mathlib.Core.Path.{_≡_, refl, ap, _∙_}
+use mathlib.Core.Bool.{false}
+use mathlib.Core.List.{List, [], _++_}
 use mathlib.Core.Option.{Option, none, some}
 use lib.ListN.{drop}
 use Rattle.rules.specs.declared.Step.{Step}
 use Rattle.rules.specs.State.{State}
-use Rattle.rules.specs.Fresh.{Start}
-use Rattle.rules.specs.Steps.{Outcome, quiet}
+use Rattle.rules.specs.Steps.{quiet}
 use Rattle.rules.specs.Steps.Answer.{done}
 use Rattle.rules.specs.Runs.{start}
-use Rattle.rules.specs.Text.{bytes, Line, lines}
-use Rattle.rules.specs.Script.{endLine, outcomeText, stepOf, said, Printing, printing, trace, traceFrom, program}
+use Rattle.rules.specs.Text.{bytes, lines}
+use Rattle.rules.specs.Script.{endLine, outcomeText, stepOf, said, Printing, printing, trace, program}
 use Rattle.state.specs.View.{Words, viewOf}
 use Rattle.reading.specs.Starts.{BadAt}
 use Rattle.walking.specs.declared.Begun.{Begun}

@@ -3,7 +3,6 @@ use Prim.Native.Nat.{_≤_, _<_, _*_, _-_}
 use mathlib.Core.Path.{_≡_}
 use borrow.Author.Needs.{needs}
 use lib.ListN.{length}
-use Rattle.rules.specs.Sizes.{slotCount}
 use Rattle.words.specs.View.{grantsOf}
 use Rattle.printing.specs.Printed.{nextRoom, Printed, restText}
 use Rattle.printing.proofs.Takers.{rest-starts, rest-goes-on, rest-ends}
