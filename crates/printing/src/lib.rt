@@ -16,6 +16,9 @@ use replies::Reply;
 // A grant's first word is the number of a slot below this, and else a try.
 const TRY: u32 = 256;
 
+// Room for any line: with a grant for each slot.
+pub const LINE_ROOM: usize = 164;
+
 // What a line shows of the state: available, stock, closed or not, queue length.
 pub struct Counts {
     pub available: u32,

@@ -3,6 +3,7 @@ use Prim.Native.Nat.{ℕ, _+_, _*_, _-_, _/_, _≤_, _<_}
 use native.Mathlib.Nat.{div-add-mod'}
 use native.Mathlib.Omega.{arith}
 use mathlib.Core.Path.{_≡_, refl, sym}
+use mathlib.Core.Bool.{false}
 use mathlib.Core.List.{List, [], _∷_, _++_}
 use lib.ListN.{length, drop}
 use lib.Seq.{length-take-le}
@@ -37,7 +38,7 @@ pub fresh-room : (k : ℕ) {s : BatchSemaphore} {w : Words} {gs old mid : List �
 fresh-room k {w = w} h l f p = omega (arith, p w .written .end, p w .short)
 
 -- The whole script, by what its first line came to.
-module _ {script : List ℕ} {r : Begun} {w : Words} (b : Begins script r w) where
+module _ {script : List ℕ} {r : Begun} {w : Words} (b : Begins false script r w) where
   pub whole-within : r .how ≡ Fresh → r .next ≤ length script
   whole-within q = b .fresh q .within
 
@@ -73,7 +74,7 @@ module _ {script : List ℕ} {r : Begun} {w : Words} (b : Begins script r w) whe
       rw (nothing-prints script (b .nothing q)) (record { written = appended-none old 0; short = omega arith })
 
 -- the words that a fresh state stands in are of their lengths
-module _ {script : List ℕ} {r : Begun} {slots tasks sizes rows last makers clocks : List ℕ} (b : Begins script r (words slots tasks sizes rows last makers clocks)) (q : r .how ≡ Fresh) where
+module _ {script : List ℕ} {r : Begun} {slots tasks sizes rows last makers clocks : List ℕ} (b : Begins false script r (words slots tasks sizes rows last makers clocks)) (q : r .how ≡ Fresh) where
   shaped : ShapedAll (r .state) (words slots tasks sizes rows last makers clocks)
   shaped = b .fresh q .begins .shaped
 

@@ -4,7 +4,7 @@ use native.Mathlib.Omega.{arith}
 use mathlib.Core.Path.{_≡_, refl, ap, sym, subst, _∙_}
 use mathlib.Core.Bool.{Bool, true, false, cond}
 use mathlib.Core.List.{List, []}
-use mathlib.Core.Option.{some}
+use mathlib.Core.Option.{Option, some}
 use lib.ListN.{length, take, drop}
 use lib.Seq.{length-take-le}
 use Rattle.rules.specs.Fresh.{Start, fresh, refusedFresh, refuses12}
@@ -22,7 +22,7 @@ use Rattle.script.proofs.Short.{start-length}
 use Rattle.reading.specs.Steps.{lineBytes}
 use Rattle.reading.specs.declared.FirstLine.{FirstLine}
 use Rattle.reading.specs.declared.FirstLine.the-variants.{Is as Says, Bad as SaysNothing, Nothing as NoLine}
-use Rattle.reading.specs.Starts.{saidWith, StartAt, BadAt, SaysFirst}
+use Rattle.reading.specs.Starts.{startAs, saidWith, StartAt, BadAt, SaysFirst}
 use Rattle.walking.specs.declared.Beginning.{Beginning}
 use Rattle.walking.specs.declared.Beginning.the-variants.{Fresh, Refused, Bad, Nothing}
 use Rattle.walking.specs.declared.Begun.{Begun}
@@ -51,7 +51,14 @@ module _ (a c : Start) (e : start a ≡ start c) where
       let p : start a .state ≡ start c .state = ap (λ (o : Outcome). o .state) e in
       rw (f, g) at p
 
--- a first line that says a start has bytes
+-- a line that says anything has bytes; one that says a start in document 01's words has four
+said-bytes : (f : List ℕ → Option Start) (l : Line) (a : Start) → said f l ≡ some a → 1 ≤ lineBytes l
+said-bytes f l a e = go (l .ended) refl
+  where
+    go : (b : Bool) → l .ended ≡ b → 1 ≤ lineBytes l
+    go true q = rw q (omega arith)
+    go false q = let p = rw q at e in let z : _≡_ {A = ℕ} 0 1 = cc in absurd (omega arith)
+
 pub start-bytes : (l : Line) (a : Start) → said startOf l ≡ some a → 4 ≤ lineBytes l
 start-bytes l a e = go (l .ended) refl
   where
@@ -76,21 +83,21 @@ module _ (first : First) (starts : List ℕ) (next : ℕ) (r : Started) (w : Wor
   )
 
 -- what there is to say, by what it came to
-BeginsAs : Beginning → List ℕ → Begun → Words → Type 0
-BeginsAs Fresh script r w = FreshAt script r w
-BeginsAs Refused script r w = RefusedAt script
-BeginsAs Bad script r w = BadAt false script
-BeginsAs Nothing script r w = lines script ≡ []
+BeginsAs : Beginning → Bool → List ℕ → Begun → Words → Type 0
+BeginsAs Fresh clocks script r w = FreshAt clocks script r w
+BeginsAs Refused clocks script r w = RefusedAt clocks script
+BeginsAs Bad clocks script r w = BadAt clocks script
+BeginsAs Nothing clocks script r w = lines script ≡ []
 
-begins : (script : List ℕ) (r : Begun) (w : Words) → BeginsAs (r .how) script r w → Begins script r w
+begins : (clocks : Bool) (script : List ℕ) (r : Begun) (w : Words) → BeginsAs (r .how) clocks script r w → Begins clocks script r w
 unfolding BeginsAs
-begins script r w b =
-    let as-is : (h : Beginning) → r .how ≡ h → BeginsAs h script r w = λ h q. subst (λ (x : Beginning). BeginsAs x script r w) q b in
+begins clocks script r w b =
+    let as-is : (h : Beginning) → r .how ≡ h → BeginsAs h clocks script r w = λ h q. subst (λ (x : Beginning). BeginsAs x clocks script r w) q b in
     record { fresh = as-is Fresh; refused = as-is Refused; bad = as-is Bad; nothing = as-is Nothing }
 
 -- what was read of it
-module _ (script : List ℕ) (f : FirstLine) (starts : List ℕ) (is : SaysFirst false script f starts) where
-  read : (first : First) (n next : ℕ) → f ≡ Says first n next → StartAt false script first n next starts
+module _ (clocks : Bool) (script : List ℕ) (f : FirstLine) (starts : List ℕ) (is : SaysFirst clocks script f starts) where
+  read : (first : First) (n next : ℕ) → f ≡ Says first n next → StartAt clocks script first n next starts
   read first n next e = rw e at is
 
   pub entries-there : (first : First) (n next : ℕ) → f ≡ Says first n next → n ≤ length starts
@@ -100,7 +107,7 @@ module _ (script : List ℕ) (f : FirstLine) (starts : List ℕ) (is : SaysFirst
   entries-length first n next e = sym (length-take-le n starts (entries-there first n next e))
 
   module _ (r : Begun) (w : Words) where
-    by-start : (first : First) (n next : ℕ) → StartAt false script first n next starts → (h : Beginning) → StartsAs h (saidWith first (take n starts)) next r w → BeginsAs h script r w
+    by-start : (first : First) (n next : ℕ) → StartAt clocks script first n next starts → (h : Beginning) → StartsAs h (saidWith first (take n starts)) next r w → BeginsAs h clocks script r w
     unfolding BeginsAs
     by-start first n next p Fresh c =
         let b = c .1 in
@@ -130,21 +137,21 @@ module _ (script : List ℕ) (f : FirstLine) (starts : List ℕ) (is : SaysFirst
           start = q .start;
           says = q .says;
           refused = sym (refused-alike (saidWith first (take n starts)) (q .start) (q .same)) ∙ c;
-          some-bytes = omega (arith, start-bytes (p .line) (q .start) (q .says), p .within, p .bytes);
+          some-bytes = omega (arith, said-bytes (startAs clocks) (p .line) (q .start) (q .says), p .within, p .bytes);
         }
     by-start first n next p Bad c = absurd c
     by-start first n next p Nothing c = absurd c
 
-    pub begins-start : (first : First) (n next : ℕ) → f ≡ Says first n next → StartedBy first (take n starts) next r w → Begins script r w
-    begins-start first n next e c = begins script r w (by-start first n next (read first n next e) (r .how) c)
+    pub begins-start : (first : First) (n next : ℕ) → f ≡ Says first n next → StartedBy first (take n starts) next r w → Begins clocks script r w
+    begins-start first n next e c = begins clocks script r w (by-start first n next (read first n next e) (r .how) c)
 
-    by-how : (h : Beginning) → r .how ≡ h → BeginsAs h script r w → Begins script r w
-    by-how h q b = begins script r w (subst (λ (x : Beginning). BeginsAs x script r w) (sym q) b)
+    by-how : (h : Beginning) → r .how ≡ h → BeginsAs h clocks script r w → Begins clocks script r w
+    by-how h q b = begins clocks script r w (subst (λ (x : Beginning). BeginsAs x clocks script r w) (sym q) b)
 
-    pub begins-bad : f ≡ SaysNothing → r .how ≡ Bad → Begins script r w
+    pub begins-bad : f ≡ SaysNothing → r .how ≡ Bad → Begins clocks script r w
     unfolding BeginsAs
     begins-bad e h = by-how Bad h (rw e at is)
 
-    pub begins-none : f ≡ NoLine → r .how ≡ Nothing → Begins script r w
+    pub begins-none : f ≡ NoLine → r .how ≡ Nothing → Begins clocks script r w
     unfolding BeginsAs
     begins-none e h = by-how Nothing h (rw e at is)

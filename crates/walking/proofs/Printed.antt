@@ -32,12 +32,12 @@ module _ {script : List ℕ} {at : ℕ} {s : State} {r : Walked} {w : Words} {gs
   traced = ap (trace s) (c .shows) ∙ ap (λ (p : Printing). p .text ++ trace (p .state) (lines (drop (r .next) script))) line-prints
 
 -- from the first line on
-module _ {script : List ℕ} {r : Begun} {w : Words} (f : FreshAt script r w) where
+module _ {script : List ℕ} {r : Begun} {w : Words} (f : FreshAt false script r w) where
   pub fresh-prints : program (lines script) ≡ outcomeText (quiet done (viewOf (r .state) w)) ++ trace (viewOf (r .state) w) (lines (drop (r .next) script))
   unfolding program start
   fresh-prints = rw (f .shows, f .says, f .begins .accepted, ← f .begins .view)
 
-pub refused-prints : {script : List ℕ} → RefusedAt script → program (lines script) ≡ endLine (bytes "r12")
+pub refused-prints : {script : List ℕ} → RefusedAt false script → program (lines script) ≡ endLine (bytes "r12")
 unfolding program
 refused-prints f = rw (f .shows, f .says, f .refused)
 
