@@ -7,23 +7,14 @@ use crate::bytes::write_number;
 use crate::walk;
 use std::num::wrapping_add_u64;
 
-// What was compared, and whether there was a script.
+// What was compared; and of the last script how many lines, and where the text for the last of them begins.
 struct Tally {
     pub scripts: u64,
     pub steps: u64,
     pub refused: u64,
     pub differences: u64,
-    pub on: bool,
-}
-
-// What was compared of a script's text: whether it is the same so far, how many lines of the script that was, where the text for the last
-// of them begins, and how many behind the first were steps, and refused ones.
-struct Held {
-    pub same: bool,
-    pub lines: u64,
+    pub line: u64,
     pub from: usize,
-    pub steps: u64,
-    pub refused: u64,
 }
 
 // Stands for the bytes of a file that is not there.
@@ -44,52 +35,26 @@ fn begins(text: &[u8], i: usize) -> bool {
     byte_at(text, i - 1) == b'\n'
 }
 
-// A line whose text begins at a place, with a letter: a step's is not `bad`, and a refused one's is `r`.
-fn begun(h: Held, i: usize, letter: u8) -> Held {
-    let mut out = h;
-    out.lines = wrapping_add_u64(h.lines, 1);
+// A line whose text begins at a place, with a letter. Behind the first, a step's is not `bad`, and a refused one's is `r`.
+fn begun(t: Tally, i: usize, letter: u8) -> Tally {
+    let mut out = t;
+    out.line = add(t.line, true);
     out.from = i;
-    if 0 < h.lines {
-        out.steps = add(h.steps, letter != b'b');
-        out.refused = add(h.refused, letter == b'r');
+    if 0 < t.line {
+        out.steps = add(t.steps, letter != b'b');
+        out.refused = add(t.refused, letter == b'r');
     }
     out
 }
 
 // One byte more. Where only one of the texts begins a line, the other has more rows for the line before.
-fn held_at(h: Held, got: &[u8], want: &[u8], i: usize) -> Held {
-    let letter = byte_at(got, i);
-    let mut out = h;
+fn counted(t: Tally, got: &[u8], want: &[u8], i: usize) -> Tally {
     if begins(got, i) {
         if begins(want, i) {
-            out = begun(h, i, letter);
+            return begun(t, i, byte_at(got, i));
         }
     }
-    out.same = letter == byte_at(want, i);
-    out
-}
-
-// A script's text held to the recorded one, as long as they are the same.
-fn compare(got: &[u8], want: &[u8]) -> Held {
-    let mut h = Held {
-        same: true,
-        lines: 0,
-        from: 0,
-        steps: 0,
-        refused: 0,
-    };
-    let mut i: usize = 0;
-    while i < got.len() {
-        h = held_at(h, got, want, i);
-        if !h.same {
-            return h;
-        }
-        i += 1;
-    }
-    if got.len() < want.len() {
-        return held_at(h, got, want, i);
-    }
-    h
+    t
 }
 
 // Where the text for the line that begins at a place ends.
@@ -116,21 +81,35 @@ fn tell(number: u32, got: &[u8], want: &[u8], line: u64, from: usize) {
     write(part(got, from, block_end(got, from)));
 }
 
-// With one script more; the first difference of all is told.
-fn counted(number: u32, got: &[u8], want: &[u8], t: Tally) -> Tally {
-    let h = compare(got, want);
-    if !h.same {
-        if t.differences == 0 {
-            tell(number, got, want, h.lines, h.from);
+// The first difference of all is told.
+fn differing(number: u32, got: &[u8], want: &[u8], t: Tally) -> Tally {
+    if t.differences == 0 {
+        tell(number, got, want, t.line, t.from);
+    }
+    let mut out = t;
+    out.differences = add(t.differences, true);
+    out
+}
+
+fn larger(m: usize, n: usize) -> usize {
+    if m < n { n } else { m }
+}
+
+// A script's text held to the recorded one, as long as they are the same.
+fn compare(number: u32, got: &[u8], want: &[u8], before: Tally) -> Tally {
+    let mut t = before;
+    t.scripts = add(before.scripts, true);
+    t.line = 0;
+    let mut i: usize = 0;
+    let end = larger(got.len(), want.len());
+    while i < end {
+        t = counted(t, got, want, i);
+        if byte_at(got, i) != byte_at(want, i) {
+            return differing(number, got, want, t);
         }
+        i += 1;
     }
-    Tally {
-        scripts: wrapping_add_u64(t.scripts, 1),
-        steps: wrapping_add_u64(t.steps, h.steps),
-        refused: wrapping_add_u64(t.refused, h.refused),
-        differences: add(t.differences, !h.same),
-        on: true,
-    }
+    t
 }
 
 fn digit(n: u32) -> u8 {
@@ -152,49 +131,34 @@ fn read(number: u32, ending: &[u8], buf: &mut [u8]) -> usize {
     m
 }
 
-// A script that was read.
-fn replay_read(
-    number: u32,
-    script: &[u8],
-    clocks: bool,
-    want: &mut [u8],
-    got: &mut [u8],
-    t: Tally,
-) -> Tally {
-    let n = walk::run(script, clocks, got, walk::ROOM);
-    let m = read(number, b".state", want);
-    counted(number, part(got, 0, n), part(want, 0, m), t)
+// The script of a number and an ending, if there is one.
+fn replay(number: u32, ending: &[u8], clocked: bool, t: Tally) -> Tally {
+    let mut script = io::large_buffer();
+    let mut want = [0u8; walk::ROOM];
+    let mut got = [0u8; walk::ROOM];
+    let k = read(number, ending, &mut script);
+    if MISSING <= k {
+        return t;
+    }
+    let n = walk::run(part(&script, 0, k), clocked, &mut got, walk::ROOM);
+    let m = read(number, b".state", &mut want);
+    compare(number, part(&got, 0, n), part(&want, 0, m), t)
 }
 
-fn replay_one(number: u32, script: &mut [u8], want: &mut [u8], got: &mut [u8], t: Tally) -> Tally {
-    let n = read(number, b".script", script);
-    if n < MISSING {
-        return replay_read(number, part(script, 0, n), false, want, got, t);
-    }
-    let m = read(number, b".clocks", script);
-    if m < MISSING {
-        return replay_read(number, part(script, 0, m), true, want, got, t);
-    }
-    let mut out = t;
-    out.on = false;
-    out
-}
-
-fn replay(script: &mut [u8], want: &mut [u8], got: &mut [u8]) -> Tally {
+fn replay_all() -> Tally {
     let mut t = Tally {
         scripts: 0,
         steps: 0,
         refused: 0,
         differences: 0,
-        on: true,
+        line: 0,
+        from: 0,
     };
     let mut number: u32 = 0;
     while number < 1000 {
-        t = replay_one(number, script, want, got, t);
+        t = replay(number, b".script", false, t);
+        t = replay(number, b".clocks", true, t);
         number += 1;
-        if !t.on {
-            break;
-        }
     }
     t
 }
@@ -206,10 +170,7 @@ fn say(n: u64, what: &[u8]) {
 
 // Replays the sample, and says what was compared.
 pub fn run() {
-    let mut script = io::large_buffer();
-    let mut want = [0u8; walk::ROOM];
-    let mut got = [0u8; walk::ROOM];
-    let t = replay(&mut script, &mut want, &mut got);
+    let t = replay_all();
     say(t.scripts, b" scripts, ");
     say(t.steps, b" steps, ");
     say(t.refused, b" of them refused, ");

@@ -9,14 +9,13 @@ use crate::walk;
 const MOST: usize = 65536;
 
 pub fn run_one() {
-    let mut script = [0u8; 65537];
+    let mut script = [0u8; MOST + 1];
     let n = io::read_full(0, &mut script);
     if MOST < n {
         write(b"long\n");
         return;
     }
-    let mut buf = [0u8; walk::ROOM];
-    walk::print(&script[..n], false, &mut buf);
+    walk::print(part(&script, 0, n), false);
 }
 
 fn length_of(high: u8, low: u8) -> usize {
@@ -33,36 +32,34 @@ fn read_length() -> usize {
     length_of(head[0], head[1])
 }
 
-fn run_read(buf: &mut [u8], script: &[u8], n: usize) {
-    walk::print(part(script, 0, n), true, buf);
-    write(b"end\n");
+// The next script is read; how many bytes it has.
+fn read_next(script: &mut [u8]) -> usize {
+    let n = read_length();
+    if script.len() < n {
+        return MOST;
+    }
+    io::read_full(0, &mut script[..n]);
+    n
 }
 
 // Whether there was a script.
-fn run_next(buf: &mut [u8], script: &mut [u8]) -> bool {
-    let n = read_length();
-    if script.len() < n {
+fn run_next() -> bool {
+    let mut script = [0u8; MOST - 1];
+    let n = read_next(&mut script);
+    if MOST <= n {
         return false;
     }
-    io::read_full(0, &mut script[..n]);
-    run_read(buf, script, n);
+    walk::print(part(&script, 0, n), true);
+    write(b"end\n");
     true
 }
 
-fn run_each(buf: &mut [u8], script: &mut [u8]) {
-    let mut on = true;
+pub fn run_many() {
     let mut turns: u32 = 4294967295;
     while 0 < turns {
-        on = run_next(buf, script);
-        turns -= 1;
-        if !on {
-            break;
+        if !run_next() {
+            return;
         }
+        turns -= 1;
     }
-}
-
-pub fn run_many() {
-    let mut buf = [0u8; walk::ROOM];
-    let mut script = [0u8; 65535];
-    run_each(&mut buf, &mut script);
 }

@@ -2,27 +2,35 @@
 ghost use mathlib.Core.Path.{_≡_};
 ghost use lib.ListN.{length};
 use crate::bytes;
+use arrays::Arrays;
+use arrays::Came;
 use points::Told;
 use printing::bit;
-use reading::FirstLine;
 use replies::Reply;
 use rules::Act;
 use rules::Question;
 use rules::Step;
-use script::First;
 use script::Parsed;
 use showing::put;
 use showing::put_step;
 use state::BatchSemaphore;
 use state::Stepped;
+use walking::Beginning;
+use walking::Begun;
 
 // Room for the text of a recorded script.
 pub const ROOM: usize = 131072;
 
-// After a line: the state, and where its text ends.
+// After a line: what it came to, and where its text ends.
 struct Turn {
-    pub state: BatchSemaphore,
+    pub came: Came,
     pub end: usize,
+}
+
+// After the first line, and the words it was begun in.
+struct Opened {
+    pub begun: Begun,
+    pub arrays: Arrays,
 }
 
 // How many questions about points a step has.
@@ -57,120 +65,32 @@ fn second_question(act: Act) -> Question {
     }
 }
 
-// What a question was told; a refused one stands before a refused step, whose points are not printed.
-fn answer(t: Told) -> u32 {
-    match t {
+// What a question is told; a refused one stands before a refused step, whose points are not printed.
+fn answer(s: BatchSemaphore, w: Arrays, a: Step, q: Question) -> u32 {
+    match arrays::point(s, w, a.actor, q) {
         Told::Point(b) => bit(b),
         Told::Refused(_) => 2,
     }
 }
 
-// What the questions before a step were told.
-fn told(
-    s: BatchSemaphore,
-    slots: &[u32; 320],
-    tasks: &[u32; 32],
-    sizes: &[u32; 64],
-    rows: &[u32; 1024],
-    last: &[u32; 16],
-    makers: &[u32; 512],
-    clocks: &[u32; 256],
-    grants: &[u32; 96],
-    a: Step,
-) -> [u32; 2]
-    ensures { λ r. ⌜ 2 ≡ length r ⌝ }
-{
+// A step is taken, and what it came to is written.
+fn run_step(buf: &mut [u8], at: usize, s: BatchSemaphore, w: Arrays, a: Step) -> Turn {
     let act = a.act;
-    let first = points::point(
-        s,
-        slots,
-        tasks,
-        sizes,
-        rows,
-        last,
-        makers,
-        clocks,
-        grants,
-        a.actor,
-        question(act),
-    );
-    let second = points::point(
-        s,
-        slots,
-        tasks,
-        sizes,
-        rows,
-        last,
-        makers,
-        clocks,
-        grants,
-        a.actor,
-        second_question(act),
-    );
-    [answer(first), answer(second)]
+    let first = answer(s, w, a, question(act));
+    let second = answer(s, w, a, second_question(act));
+    let came = arrays::step(s, w, a);
+    let end = put_step(buf, at, &[first, second], asked(act), came);
+    Turn { came, end }
 }
 
-// A line is run: a step is taken, and what it came to is written.
-fn run_line(
-    buf: &mut [u8],
-    at: usize,
-    s: BatchSemaphore,
-    slots: &mut [u32; 320],
-    tasks: &mut [u32; 32],
-    sizes: &mut [u32; 64],
-    rows: &mut [u32; 1024],
-    last: &mut [u32; 16],
-    makers: &mut [u32; 512],
-    clocks: &mut [u32; 256],
-    grants: &mut [u32; 96],
-    said: Parsed,
-) -> Turn {
+// A line is run.
+fn run_line(buf: &mut [u8], at: usize, came: Came, said: Parsed) -> Turn {
     let Parsed::Is(a) = said else {
         let end = put(buf, at, b"bad\n");
-        return Turn { state: s, end };
+        return Turn { came, end };
     };
-    let act = a.act;
-    let points = told(
-        s,
-        slots,
-        tasks,
-        sizes,
-        rows,
-        last,
-        makers,
-        clocks,
-        grants,
-        a,
-    );
-    let r = semaphore::step(
-        s,
-        slots,
-        tasks,
-        sizes,
-        rows,
-        last,
-        makers,
-        clocks,
-        grants,
-        a,
-    );
-    let end = put_step(
-        buf,
-        at,
-        &points,
-        asked(act),
-        r,
-        slots,
-        tasks,
-        sizes,
-        rows,
-        last,
-        makers,
-        clocks,
-        grants,
-    );
-    let state = r.state;
-    Turn { state, end }
+    let r = came.stepped;
+    run_step(buf, at, r.state, came.arrays, a)
 }
 
 // What is past the limit is written out.
@@ -183,61 +103,35 @@ fn emptied(buf: &[u8], at: usize, limit: usize) -> usize {
 }
 
 // The lines from a place on.
-fn run_lines(
-    script: &[u8],
-    from: usize,
-    buf: &mut [u8],
-    start: usize,
-    limit: usize,
-    first: BatchSemaphore,
-    slots: &mut [u32; 320],
-    tasks: &mut [u32; 32],
-    sizes: &mut [u32; 64],
-    rows: &mut [u32; 1024],
-    last: &mut [u32; 16],
-    makers: &mut [u32; 512],
-    clocks: &mut [u32; 256],
-    grants: &mut [u32; 96],
-) -> usize {
+fn run_lines(script: &[u8], from: usize, buf: &mut [u8], limit: usize, first: Turn) -> usize {
     let mut at = from;
-    let mut s = first;
-    let mut n = start;
+    let mut t = first;
     while at < script.len() {
         let l = reading::read_line(script, at);
         let said = l.said;
-        n = emptied(buf, n, limit);
-        let t = run_line(
-            buf,
-            n,
-            s,
-            slots,
-            tasks,
-            sizes,
-            rows,
-            last,
-            makers,
-            clocks,
-            grants,
-            said,
-        );
-        let state = t.state;
-        s = state;
-        n = t.end;
+        let n = emptied(buf, t.end, limit);
+        t = run_line(buf, n, t.came, said);
         at = l.next;
     }
-    n
+    t.end
 }
 
-// A first line that says a start, and the lines behind it.
-fn run_from(
-    script: &[u8],
-    from: usize,
-    buf: &mut [u8],
-    limit: usize,
-    first: First,
-    starts: &[u32; 256],
-    entries: usize,
-) -> usize {
+// A fresh state, and the lines behind it.
+fn run_fresh(script: &[u8], from: usize, buf: &mut [u8], limit: usize, o: Opened) -> usize {
+    let state = o.begun.state;
+    let arrays = o.arrays;
+    let stepped = Stepped {
+        reply: Reply::Done,
+        count: 0,
+        state,
+    };
+    let came = Came { stepped, arrays };
+    let end = put_step(buf, 0, &[], 0, came);
+    run_lines(script, from, buf, limit, Turn { came, end })
+}
+
+// What the first line comes to.
+fn begin(script: &[u8], clocked: bool) -> Opened {
     let mut slots = [0u32; 320];
     let mut tasks = [0u32; 32];
     let mut sizes = [0u32; 64];
@@ -245,49 +139,9 @@ fn run_from(
     let mut last = [0u32; 16];
     let mut makers = [0u32; 512];
     let mut clocks = [0u32; 256];
-    let mut grants = [0u32; 96];
-    let r = starting::start_with(
-        first,
-        part(starts, 0, entries),
-        &mut slots,
-        &mut tasks,
-        &mut sizes,
-        &mut rows,
-        &mut last,
-        &mut makers,
-        &mut clocks,
-    );
-    if r.refused {
-        return put(buf, 0, b"r12\n");
-    }
-    let state = r.state;
-    let done = Stepped {
-        reply: Reply::Done,
-        count: 0,
-        state,
-    };
-    let end = put_step(
-        buf,
-        0,
-        &[],
-        0,
-        done,
-        &slots,
-        &tasks,
-        &sizes,
-        &rows,
-        &last,
-        &makers,
-        &clocks,
-        &grants,
-    );
-    run_lines(
+    let begun = walking::begin(
         script,
-        from,
-        buf,
-        end,
-        limit,
-        state,
+        clocked,
         &mut slots,
         &mut tasks,
         &mut sizes,
@@ -295,36 +149,36 @@ fn run_from(
         &mut last,
         &mut makers,
         &mut clocks,
-        &mut grants,
-    )
-}
-
-// The words between two places; none where the places are not so.
-fn part(words: &[u32], from: usize, to: usize) -> &[u32] {
-    if from <= to {
-        if to <= words.len() {
-            return &words[from..to];
-        }
-    }
-    &words[..0]
+    );
+    let arrays = Arrays {
+        slots,
+        tasks,
+        sizes,
+        rows,
+        last,
+        makers,
+        clocks,
+        grants: [0; 96],
+    };
+    Opened { begun, arrays }
 }
 
 // The text for a script; where it ends in a buffer. Whenever the buffer is full to the limit, it is written out first.
-pub fn run(script: &[u8], clocks: bool, buf: &mut [u8], limit: usize) -> usize {
-    let mut starts = [0u32; 256];
-    match reading::read_first(script, clocks, &mut starts) {
-        FirstLine::Is {
-            first,
-            entries,
-            next,
-        } => run_from(script, next, buf, limit, first, &starts, entries),
-        FirstLine::Bad => put(buf, 0, b"bad\n"),
-        FirstLine::Nothing => 0,
+pub fn run(script: &[u8], clocked: bool, buf: &mut [u8], limit: usize) -> usize {
+    let o = begin(script, clocked);
+    let begun = o.begun;
+    let how = begun.how;
+    match how {
+        Beginning::Fresh => run_fresh(script, begun.next, buf, limit, o),
+        Beginning::Refused => put(buf, 0, b"r12\n"),
+        Beginning::Bad => put(buf, 0, b"bad\n"),
+        Beginning::Nothing => 0,
     }
 }
 
 // The text for a script is written out.
-pub fn print(script: &[u8], clocks: bool, buf: &mut [u8]) {
-    let end = run(script, clocks, buf, 65536);
-    bytes::write(bytes::part(buf, 0, end));
+pub fn print(script: &[u8], clocked: bool) {
+    let mut buf = [0u8; ROOM];
+    let end = run(script, clocked, &mut buf, 65536);
+    bytes::write(bytes::part(&buf, 0, end));
 }

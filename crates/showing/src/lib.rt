@@ -2,8 +2,11 @@
 // numbers. Nothing here is part of the promises: it is one side of the comparison with the Rust. What does not fit a buffer is not written.
 ghost use mathlib.Core.Path.{_≡_};
 ghost use Prim.Native.Nat.{_-_};
+use arrays::Arrays;
+use arrays::Came;
 use batches::Batches;
 use head::Head;
+use printing::LINE_ROOM;
 use printing::bit;
 use queue::Waiters;
 use replies::Reply;
@@ -144,61 +147,47 @@ fn batches_of(b: Batches) -> u32 {
     if b.ready { standing(ring.count, 64) } else { 0 }
 }
 
-// How many tasks there are, and entries of a clock.
-fn tasks_of(h: Head) -> u32 {
-    standing(h.tasks, 16)
+// The batches from the oldest on, and their clocks of n entries.
+fn put_batches(buf: &mut [u8], at: usize, b: Batches, n: usize, w: Arrays) -> usize {
+    let count = batches_of(b);
+    let first = b.permit_clocks.head as usize;
+    let p = put_row(buf, at, &[3, bit(b.ready)], &w.sizes, first, count as usize);
+    put_table(buf, p, 4, count, &w.rows, first * 16, 16, n, &[])
 }
 
 // The semaphore itself.
-fn put_semaphore(
-    buf: &mut [u8],
-    at: usize,
-    s: BatchSemaphore,
-    sizes: &[u32],
-    rows: &[u32],
-    last: &[u32],
-) -> usize {
+fn put_semaphore(buf: &mut [u8], at: usize, s: BatchSemaphore, n: usize, w: Arrays) -> usize {
     let h = s.head;
-    let b = s.batches;
-    let n = tasks_of(h) as usize;
-    let count = batches_of(b);
-    let first = b.permit_clocks.head as usize;
     let unfair = bit(!h.strictly_fair());
     let p2 = put_row(buf, at, &[2, unfair, bit(h.closed), h.stock], &[], 0, 0);
-    let p3 = put_row(buf, p2, &[3, bit(b.ready)], sizes, first, count as usize);
-    let p4 = put_table(buf, p3, 4, count, rows, first * 16, 16, n, &[]);
-    let p5 = put_row(buf, p4, &[5], last, 0, n);
+    let p4 = put_batches(buf, p2, s.batches, n, w);
+    let p5 = put_row(buf, p4, &[5], &w.last, 0, n);
     put_queue(buf, p5, h)
 }
 
-// The tasks, and the requests in their slots.
-fn put_records(
-    buf: &mut [u8],
-    at: usize,
-    h: Head,
-    slots: &[u32],
-    tasks: &[u32],
-    makers: &[u32],
-    clocks: &[u32],
-) -> usize {
-    let count = tasks_of(h);
-    let n = count as usize;
-    let p8 = put_table(buf, at, 8, count, tasks, 0, 2, 2, &[]);
-    let p9 = put_table(buf, p8, 9, count, clocks, 0, 16, n, &[]);
-    let p10 = put_table(buf, p9, 10, 32, slots, 0, 10, 10, slots);
-    put_table(buf, p10, 11, 32, makers, 0, 16, n, slots)
+fn put_tasks(buf: &mut [u8], at: usize, n: u32, w: Arrays) -> usize {
+    let p = put_table(buf, at, 8, n, &w.tasks, 0, 2, 2, &[]);
+    put_table(buf, p, 9, n, &w.clocks, 0, 16, n as usize, &[])
 }
 
-fn is_refused(reply: Reply) -> bool {
-    match reply {
-        Reply::Refused(_) => true,
-        _ => false,
-    }
+// The requests in their slots.
+fn put_requests(buf: &mut [u8], at: usize, n: usize, w: Arrays) -> usize {
+    let slots = w.slots;
+    let p = put_table(buf, at, 10, 32, &slots, 0, 10, 10, &slots);
+    put_table(buf, p, 11, 32, &w.makers, 0, 16, n, &slots)
+}
+
+fn put_state(buf: &mut [u8], at: usize, s: BatchSemaphore, w: Arrays) -> usize {
+    let h = s.head;
+    let n = standing(h.tasks, 16);
+    let p7 = put_semaphore(buf, at, s, n as usize, w);
+    let p9 = put_tasks(buf, p7, n, w);
+    put_requests(buf, p9, n as usize, w)
 }
 
 // The script program's line.
 fn put_line(buf: &mut [u8], at: usize, r: Stepped, grants: &[u32; 96]) -> usize {
-    if left(buf.len(), at) < 180 {
+    if left(buf.len(), at) < LINE_ROOM {
         return at;
     }
     if 32 < r.count {
@@ -214,30 +203,22 @@ fn grants_of(count: usize) -> u8 {
     if count < 32 { count as u8 } else { 32 }
 }
 
-// The line of a step, and where it was accepted the rows: what its questions about points were told, its grants, and the state.
-pub fn put_step(
-    buf: &mut [u8],
-    at: usize,
-    told: &[u32],
-    asked: usize,
-    r: Stepped,
-    slots: &[u32],
-    tasks: &[u32],
-    sizes: &[u32],
-    rows: &[u32],
-    last: &[u32],
-    makers: &[u32],
-    clocks: &[u32],
-    grants: &[u32; 96],
-) -> usize {
-    let p = put_line(buf, at, r, grants);
+// The rows of an accepted step: what its questions about points were told, its grants, and the state.
+fn put_rows(buf: &mut [u8], at: usize, told: &[u32], asked: usize, r: Stepped, w: Arrays) -> usize {
+    let s = r.state;
+    let p0 = put_row(buf, at, &[0], told, 0, asked);
+    let p1 = put_row(buf, p0, &[1], &w.grants, 0, 3 * grants_of(r.count) as usize);
+    put_state(buf, p1, s, w)
+}
+
+// The line of a step, and where it was accepted the rows.
+pub fn put_step(buf: &mut [u8], at: usize, told: &[u32], asked: usize, c: Came) -> usize {
+    let r = c.stepped;
+    let w = c.arrays;
+    let p = put_line(buf, at, r, &w.grants);
     let reply = r.reply;
-    if is_refused(reply) {
+    if let Reply::Refused(_) = reply {
         return p;
     }
-    let p0 = put_row(buf, p, &[0], told, 0, asked);
-    let p1 = put_row(buf, p0, &[1], grants, 0, 3 * grants_of(r.count) as usize);
-    let s = r.state;
-    let p7 = put_semaphore(buf, p1, s, sizes, rows, last);
-    put_records(buf, p7, s.head, slots, tasks, makers, clocks)
+    put_rows(buf, p, told, asked, r, w)
 }

@@ -1,21 +1,35 @@
--- `replay::sample::compare`: what is left of the text.
+-- `replay::sample::compare`: what is left of the longer text.
 use Prim.Native.Nat.{_-_}
 use borrow.Author.Needs.{needs}
-use lib.ListN.{length}
 use Rattle.replay.proofs.sample.compare.Statement.{statement}
 use Rattle.replay.proofs.sample.compare.Tie as tie
 
 abbrev Inv-loop : tie.InvT-loop
-Inv-loop got want h₀ i₀ h i = Unit {0}
+Inv-loop number got want t₀ i₀ end t i = Unit {0}
 
 abbrev μ-loop : tie.MeasureT-loop
-μ-loop got want h₀ i₀ h i = length got - i
+μ-loop number got want t₀ i₀ end t i = end - i
+
+add-requires : tie.Need-add-requires Inv-loop μ-loop
+add-requires c κs = search needs
+
+larger-requires : tie.Need-larger-requires Inv-loop μ-loop
+larger-requires c κs = search needs
 
 loop-holds : tie.Need-loop-holds Inv-loop μ-loop
 loop-holds c = search needs
 
-held-at-requires : tie.Need-held-at-requires Inv-loop μ-loop
-held-at-requires c κs = search needs
+counted-requires : tie.Need-counted-requires Inv-loop μ-loop
+counted-requires c κs = search needs
+
+byte-at-requires : tie.Need-byte-at-requires Inv-loop μ-loop
+byte-at-requires c κs = search needs
+
+byte-at-requires-2 : tie.Need-byte-at-requires-2 Inv-loop μ-loop
+byte-at-requires-2 c κs = search needs
+
+differing-requires : tie.Need-differing-requires Inv-loop μ-loop
+differing-requires c κs = search needs
 
 returns : tie.Need-returns Inv-loop μ-loop
 returns c = search needs
@@ -29,14 +43,8 @@ loop-less c = search needs
 loop-again : tie.Need-loop-again Inv-loop μ-loop
 loop-again c = search needs
 
-held-at-requires-2 : tie.Need-held-at-requires-2 Inv-loop μ-loop
-held-at-requires-2 c κs = search needs
-
 returns-2 : tie.Need-returns-2 Inv-loop μ-loop
 returns-2 c = search needs
-
-returns-3 : tie.Need-returns-3 Inv-loop μ-loop
-returns-3 c = search needs
 
 pub compare-spec : {M : Type 1} → statement M
 compare-spec =
@@ -44,12 +52,15 @@ compare-spec =
     (tie.spec
     Inv-loop
     μ-loop
+    add-requires
+    larger-requires
     loop-holds
-    held-at-requires
+    counted-requires
+    byte-at-requires
+    byte-at-requires-2
+    differing-requires
     returns
     add-i
     loop-less
     loop-again
-    held-at-requires-2
-    returns-2
-    returns-3)
+    returns-2)

@@ -3,15 +3,14 @@ use Prim.Native.Nat.{_-_}
 use borrow.Author.Needs.{needs}
 use lib.ListN.{length}
 use mathlib.Core.Path.{_≡_}
-use native.Mathlib.Omega.{arith}
 use Rattle.replay.proofs.walk.run_lines.Statement.{statement}
 use Rattle.replay.proofs.walk.run_lines.Tie as tie
 
 abbrev Inv-loop : tie.InvT-loop
-Inv-loop script from buf₀ start limit slots₀ tasks₀ sizes₀ rows₀ last₀ makers₀ clocks₀ grants₀ at₀ s₀ n₀ buf slots tasks sizes rows last makers clocks grants at s n = length buf ≡ length buf₀
+Inv-loop script from buf₀ limit at₀ t₀ buf at t = length buf ≡ length buf₀
 
 abbrev μ-loop : tie.MeasureT-loop
-μ-loop script from buf₀ start limit slots₀ tasks₀ sizes₀ rows₀ last₀ makers₀ clocks₀ grants₀ at₀ s₀ n₀ buf slots tasks sizes rows last makers clocks grants at s n = length script - at
+μ-loop script from buf₀ limit at₀ t₀ buf at t = length script - at
 
 loop-holds : tie.Need-loop-holds Inv-loop μ-loop
 loop-holds c = search needs
@@ -26,20 +25,10 @@ run-line-requires : tie.Need-run-line-requires Inv-loop μ-loop
 run-line-requires c κs = search needs
 
 loop-less : tie.Need-loop-less Inv-loop μ-loop
-loop-less c =
-    let t = c .before .before .before in
-    let a = t .before .before .before .before in
-    let b = a .before .before .before .before in
-    let r = b .before .before .before .before in
-    omega (arith, r .read-line .ensures .on, r .before .loop-test .taken)
+loop-less c = search needs
 
 loop-again : tie.Need-loop-again Inv-loop μ-loop
-loop-again c =
-    let t = c .before .before .before in
-    let a = t .before .before .before .before in
-    let b = a .before .before .before .before in
-    let r = b .before .before .before .before in
-    search (t .run-line .kept .0, r .before .before .loop .inv, needs)
+loop-again c = search needs
 
 same-length : tie.Need-same-length Inv-loop μ-loop
 same-length c = search needs

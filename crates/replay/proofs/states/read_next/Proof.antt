@@ -1,10 +1,10 @@
--- `replay::states::run_next`: a part of a buffer that is long enough is as long as asked.
+-- `replay::states::read_next`: a part of a buffer that is long enough is as long as asked.
 use lib.Seq.{length-take-le}
 use mathlib.Core.Path.{sym}
 use native.Mathlib.Omega.{arith}
 use borrow.Author.Needs.{needs}
-use Rattle.replay.proofs.states.run_next.Statement.{statement}
-use Rattle.replay.proofs.states.run_next.Tie as tie
+use Rattle.replay.proofs.states.read_next.Statement.{statement}
+use Rattle.replay.proofs.states.read_next.Tie as tie
 
 read-length-requires : tie.Need-read-length-requires
 read-length-requires c κs = search needs
@@ -21,20 +21,14 @@ slice-aggregate-read-full c = sym (length-take-le _ _ (omega arith))
 read-full-requires : tie.Need-read-full-requires
 read-full-requires c κs = search needs
 
-run-read-requires : tie.Need-run-read-requires
-run-read-requires c κs = search needs
-
 same-length : tie.Need-same-length
 same-length c = search needs
-
-same-length-2 : tie.Need-same-length-2
-same-length-2 c = search needs
 
 returns-2 : tie.Need-returns-2
 returns-2 c = search needs
 
-pub run-next-spec : {M : Type 1} → statement M
-run-next-spec =
+pub read-next-spec : {M : Type 1} → statement M
+read-next-spec =
     tie.close
     (tie.spec
     read-length-requires
@@ -42,7 +36,5 @@ run-next-spec =
     slice-relend-prefix-read-full
     slice-aggregate-read-full
     read-full-requires
-    run-read-requires
     same-length
-    same-length-2
     returns-2)
