@@ -1,6 +1,4 @@
 // A script walked line by line: for each line what it prints, and behind an accepted one the whole state.
-ghost use mathlib.Core.Path.{_≡_};
-ghost use lib.ListN.{length};
 use crate::bytes;
 use arrays::Arrays;
 use arrays::Came;
