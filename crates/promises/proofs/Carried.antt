@@ -1,7 +1,5 @@
 -- Calls that meet their contracts say and do what document 01's run of their steps says and does.
-use Prim.Native.Nat.{ℕ}
 use mathlib.Core.Path.{_≡_, refl, ap, _∙_}
-use mathlib.Core.Bool.{false}
 use mathlib.Core.List.{List, [], _∷_}
 use Rattle.rules.specs.Steps.{Outcome}
 use Rattle.rules.specs.Runs.{Said, run}

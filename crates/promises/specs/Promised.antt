@@ -1,7 +1,6 @@
 -- Demand 3, of the calls themselves: what holds after calls `cs` that began with `h`, made fresh as `a` says.
 use Prim.Native.Nat.{_+_}
 use mathlib.Core.Path.{_≡_}
-use mathlib.Core.Bool.{false}
 use mathlib.Core.List.{List, map}
 use mathlib.Core.Option.{some}
 use Rattle.rules.specs.declared.Fairness.the-variants.{StrictlyFair}

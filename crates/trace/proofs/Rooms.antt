@@ -23,7 +23,7 @@ use Rattle.state.specs.View.{Words, outcomeOf}
 use Rattle.script.proofs.Short.{step-length}
 use Rattle.reading.specs.Steps.{lineBytes}
 use Rattle.walking.specs.declared.Walked.{Walked}
-use Rattle.walking.specs.Coming.{comesTo, came, Comes}
+use Rattle.walking.specs.Coming.{comesTo, Comes}
 use Rattle.printing.specs.Printed.{lineRoom}
 use Rattle.trace.specs.Running.{byteRoom, badRoom, cameRoom}
 
