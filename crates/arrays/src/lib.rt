@@ -1,6 +1,6 @@
-// The calls with all words by value, for what need not be quick. What tries wrong answers against their contracts is checked many times, and a
-// function that is lent eight arrays takes several seconds to check, where one that has them by value takes half of one; and what writes our
-// side of the comparison is the shorter for it.
+// The calls with all words by value, for what need not be quick. What tries wrong answers against their contracts is checked many times,
+// and a function that is lent eight arrays takes several seconds to check, where one that has them by value takes half of one; and what
+// writes our side of the comparison is the shorter for it.
 ghost use mathlib.Core.Path.{_≡_};
 ghost use mathlib.Core.Option.{none, some};
 ghost use Rattle.rules.specs.Runs.{start};

@@ -1,6 +1,6 @@
 // Prints the whole state after each line, as `oracle --state` does: of the script on standard input, or of many. Before each of many stand
-// the two bytes of its length, the high one first, and behind what is printed for it a line `end`; and a first line may have starting clocks,
-// as for `oracle --state --clocks`.
+// the two bytes of its length, the high one first, and behind what is printed for it a line `end`; and a first line may have starting
+// clocks, as for `oracle --state --clocks`.
 use crate::bytes::part;
 use crate::bytes::write;
 use crate::walk;

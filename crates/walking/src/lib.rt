@@ -105,8 +105,8 @@ fn begin_with(
     }
 }
 
-// What the first line of a script comes to, in words that the caller lends, whatever stands in them. `clocked` lets starting clocks stand in
-// the line, as `reading::read_first` has them.
+// What the first line of a script comes to, in words that the caller lends, whatever stands in them. `clocked` lets starting clocks stand
+// in the line, as `reading::read_first` has them.
 pub fn begin(
     script: &[u8],
     clocked: bool,
