@@ -18,6 +18,7 @@ pub mod KeepsScan
 pub mod KeepsSteps
 pub mod KeepsTaking
 pub mod Laws
+pub mod Lengths
 pub mod Naming
 pub mod Orders
 pub mod Parts
