@@ -10,5 +10,5 @@ abbrev pub wordsIn : Arrays → Words
 wordsIn w = words (w .slots) (w .tasks) (w .sizes) (w .rows) (w .last) (w .makers) (w .clocks)
 
 -- what every call owes, by value
-abbrev pub Comes : BatchSemaphore → Arrays → Step → Came → Type 0
-Comes s w a r = Steps s (wordsIn w) (w .grants) a (r .stepped) (wordsIn (r .arrays)) (r .arrays .grants)
+abbrev pub Owes : BatchSemaphore → Arrays → Step → Came → Type 0
+Owes s w a r = Steps s (wordsIn w) (w .grants) a (r .stepped) (wordsIn (r .arrays)) (r .arrays .grants)

@@ -7,7 +7,7 @@ ghost use Rattle.rules.specs.Runs.{start};
 ghost use Rattle.rules.specs.Steps.{_does_};
 ghost use Rattle.fresh.specs.Starting.{Gives};
 ghost use Rattle.points.specs.Told.{toldBy, answerTo};
-ghost use Rattle.arrays.specs.Arrays.{wordsIn, Comes};
+ghost use Rattle.arrays.specs.Arrays.{wordsIn, Owes};
 use fresh::Started;
 use points::Told;
 use rules::Act;
@@ -37,13 +37,13 @@ pub struct Came {
 }
 
 // A start, and what it leaves in the arrays.
-pub struct Begun {
+pub struct StartedArrays {
     pub started: Started,
     pub arrays: Arrays,
 }
 
 pub fn step(s: BatchSemaphore, w: Arrays, a: Step) -> Came
-    ensures { λ r. ⌜ Comes s w a r ⌝ }
+    ensures { λ r. ⌜ Owes s w a r ⌝ }
 {
     let mut slots = w.slots;
     let mut tasks = w.tasks;
@@ -80,7 +80,7 @@ pub fn step(s: BatchSemaphore, w: Arrays, a: Step) -> Came
 
 // The step of a task's act.
 pub fn act(s: BatchSemaphore, w: Arrays, me: TaskId, act: Act) -> Came
-    ensures { λ r. ⌜ Comes s w (me does act) r ⌝ }
+    ensures { λ r. ⌜ Owes s w (me does act) r ⌝ }
 {
     step(s, w, Step { actor: me, act })
 }
@@ -112,7 +112,13 @@ pub fn point(s: BatchSemaphore, w: Arrays, me: TaskId, q: Question) -> Told
 }
 
 // A fresh state that a task makes.
-pub fn new(fairness: Fairness, stock: u32, count: u32, starts: &[u32], maker: TaskId) -> Begun
+pub fn new(
+    fairness: Fairness,
+    stock: u32,
+    count: u32,
+    starts: &[u32],
+    maker: TaskId,
+) -> StartedArrays
     ensures { λ r. ⌜ Gives (r .started) (wordsIn (r .arrays)) (start (record { fairness = fairness; stock = stock; tasks = count; clocks = now (starts .entry); maker = some maker })) ⌝ }
 {
     let mut slots = [0u32; 320];
@@ -146,11 +152,11 @@ pub fn new(fairness: Fairness, stock: u32, count: u32, starts: &[u32], maker: Ta
         clocks,
         grants: [0; 96],
     };
-    Begun { started, arrays }
+    StartedArrays { started, arrays }
 }
 
 // A fresh state that no task makes.
-pub fn const_new(fairness: Fairness, stock: u32, count: u32, starts: &[u32]) -> Begun
+pub fn const_new(fairness: Fairness, stock: u32, count: u32, starts: &[u32]) -> StartedArrays
     ensures { λ r. ⌜ Gives (r .started) (wordsIn (r .arrays)) (start (record { fairness = fairness; stock = stock; tasks = count; clocks = now (starts .entry); maker = none })) ⌝ }
 {
     let mut slots = [0u32; 320];
@@ -183,5 +189,5 @@ pub fn const_new(fairness: Fairness, stock: u32, count: u32, starts: &[u32]) -> 
         clocks,
         grants: [0; 96],
     };
-    Begun { started, arrays }
+    StartedArrays { started, arrays }
 }

@@ -2,7 +2,7 @@
 // Each edit in must-fail/ answers wrongly, and the contract rules it out.
 ghost use Rattle.rules.specs.declared.Act.the-variants.{Try, TryUpgrade, Release, Close, Sleep, Finish};
 ghost use Rattle.rules.specs.Steps.{_does_};
-ghost use Rattle.arrays.specs.Arrays.{Comes};
+ghost use Rattle.arrays.specs.Arrays.{Owes};
 use arrays::Arrays;
 use arrays::Came;
 use rules::Act;
@@ -11,43 +11,43 @@ use rules::TaskId;
 use state::BatchSemaphore;
 
 pub fn step(s: BatchSemaphore, w: Arrays, a: Step) -> Came
-    ensures { λ r. ⌜ Comes s w a r ⌝ }
+    ensures { λ r. ⌜ Owes s w a r ⌝ }
 {
     arrays::step(s, w, a)
 }
 
 pub fn try_acquire(s: BatchSemaphore, w: Arrays, me: TaskId, num_permits: u32) -> Came
-    ensures { λ r. ⌜ Comes s w (me does Try «num_permits») r ⌝ }
+    ensures { λ r. ⌜ Owes s w (me does Try «num_permits») r ⌝ }
 {
     arrays::act(s, w, me, Act::Try(num_permits))
 }
 
 pub fn try_upgrade(s: BatchSemaphore, w: Arrays, me: TaskId, held: u32, wanted: u32) -> Came
-    ensures { λ r. ⌜ Comes s w (me does TryUpgrade held wanted) r ⌝ }
+    ensures { λ r. ⌜ Owes s w (me does TryUpgrade held wanted) r ⌝ }
 {
     arrays::act(s, w, me, Act::TryUpgrade { held, wanted })
 }
 
 pub fn release(s: BatchSemaphore, w: Arrays, me: TaskId, num_permits: u32) -> Came
-    ensures { λ r. ⌜ Comes s w (me does Release «num_permits») r ⌝ }
+    ensures { λ r. ⌜ Owes s w (me does Release «num_permits») r ⌝ }
 {
     arrays::act(s, w, me, Act::Release(num_permits))
 }
 
 pub fn close(s: BatchSemaphore, w: Arrays, me: TaskId) -> Came
-    ensures { λ r. ⌜ Comes s w (me does Close) r ⌝ }
+    ensures { λ r. ⌜ Owes s w (me does Close) r ⌝ }
 {
     arrays::act(s, w, me, Act::Close)
 }
 
 pub fn sleep(s: BatchSemaphore, w: Arrays, me: TaskId) -> Came
-    ensures { λ r. ⌜ Comes s w (me does Sleep) r ⌝ }
+    ensures { λ r. ⌜ Owes s w (me does Sleep) r ⌝ }
 {
     arrays::act(s, w, me, Act::Sleep)
 }
 
 pub fn finish(s: BatchSemaphore, w: Arrays, me: TaskId) -> Came
-    ensures { λ r. ⌜ Comes s w (me does Finish) r ⌝ }
+    ensures { λ r. ⌜ Owes s w (me does Finish) r ⌝ }
 {
     arrays::act(s, w, me, Act::Finish)
 }

@@ -7,7 +7,7 @@ ghost use Rattle.points.specs.Told.{toldBy, answerTo};
 ghost use Rattle.trace.specs.Running.{Prints};
 ghost use Rattle.arrays.specs.Arrays.{wordsIn};
 use arrays::Arrays;
-use arrays::Begun;
+use arrays::StartedArrays;
 use points::Told;
 use rules::Fairness;
 use rules::Question;
@@ -20,13 +20,19 @@ pub fn point(s: BatchSemaphore, w: Arrays, me: TaskId, q: Question) -> Told
     arrays::point(s, w, me, q)
 }
 
-pub fn new(fairness: Fairness, stock: u32, count: u32, starts: &[u32], maker: TaskId) -> Begun
+pub fn new(
+    fairness: Fairness,
+    stock: u32,
+    count: u32,
+    starts: &[u32],
+    maker: TaskId,
+) -> StartedArrays
     ensures { λ r. ⌜ Gives (r .started) (wordsIn (r .arrays)) (start (record { fairness = fairness; stock = stock; tasks = count; clocks = now (starts .entry); maker = some maker })) ⌝ }
 {
     arrays::new(fairness, stock, count, starts, maker)
 }
 
-pub fn const_new(fairness: Fairness, stock: u32, count: u32, starts: &[u32]) -> Begun
+pub fn const_new(fairness: Fairness, stock: u32, count: u32, starts: &[u32]) -> StartedArrays
     ensures { λ r. ⌜ Gives (r .started) (wordsIn (r .arrays)) (start (record { fairness = fairness; stock = stock; tasks = count; clocks = now (starts .entry); maker = none })) ⌝ }
 {
     arrays::const_new(fairness, stock, count, starts)

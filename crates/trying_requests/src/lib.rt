@@ -2,7 +2,7 @@
 // Each edit in must-fail/ answers wrongly, and the contract rules it out.
 ghost use Rattle.rules.specs.declared.Act.the-variants.{Acquire, AcquireBypassable, AcquireReserving, Upgrade, Poll, Drop};
 ghost use Rattle.rules.specs.Steps.{_does_};
-ghost use Rattle.arrays.specs.Arrays.{Comes};
+ghost use Rattle.arrays.specs.Arrays.{Owes};
 use arrays::Arrays;
 use arrays::Came;
 use rules::Act;
@@ -11,37 +11,37 @@ use rules::TaskId;
 use state::BatchSemaphore;
 
 pub fn acquire(s: BatchSemaphore, w: Arrays, me: TaskId, num_permits: u32) -> Came
-    ensures { λ r. ⌜ Comes s w (me does Acquire «num_permits») r ⌝ }
+    ensures { λ r. ⌜ Owes s w (me does Acquire «num_permits») r ⌝ }
 {
     arrays::act(s, w, me, Act::Acquire(num_permits))
 }
 
 pub fn acquire_bypassable(s: BatchSemaphore, w: Arrays, me: TaskId, num_permits: u32) -> Came
-    ensures { λ r. ⌜ Comes s w (me does AcquireBypassable «num_permits») r ⌝ }
+    ensures { λ r. ⌜ Owes s w (me does AcquireBypassable «num_permits») r ⌝ }
 {
     arrays::act(s, w, me, Act::AcquireBypassable(num_permits))
 }
 
 pub fn acquire_reserving(s: BatchSemaphore, w: Arrays, me: TaskId, least: u32, asked: u32) -> Came
-    ensures { λ r. ⌜ Comes s w (me does AcquireReserving least asked) r ⌝ }
+    ensures { λ r. ⌜ Owes s w (me does AcquireReserving least asked) r ⌝ }
 {
     arrays::act(s, w, me, Act::AcquireReserving { least, asked })
 }
 
 pub fn upgrade(s: BatchSemaphore, w: Arrays, me: TaskId, held: u32, wanted: u32) -> Came
-    ensures { λ r. ⌜ Comes s w (me does Upgrade held wanted) r ⌝ }
+    ensures { λ r. ⌜ Owes s w (me does Upgrade held wanted) r ⌝ }
 {
     arrays::act(s, w, me, Act::Upgrade { held, wanted })
 }
 
 pub fn poll(s: BatchSemaphore, w: Arrays, me: TaskId, x: Slot) -> Came
-    ensures { λ r. ⌜ Comes s w (me does Poll x) r ⌝ }
+    ensures { λ r. ⌜ Owes s w (me does Poll x) r ⌝ }
 {
     arrays::act(s, w, me, Act::Poll(x))
 }
 
 pub fn drop(s: BatchSemaphore, w: Arrays, me: TaskId, x: Slot) -> Came
-    ensures { λ r. ⌜ Comes s w (me does Drop x) r ⌝ }
+    ensures { λ r. ⌜ Owes s w (me does Drop x) r ⌝ }
 {
     arrays::act(s, w, me, Act::Drop(x))
 }
