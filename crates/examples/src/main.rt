@@ -11,8 +11,8 @@ fn script_room() -> [u8; 4096] {
     [0u8; 4096]
 }
 
-fn text_room() -> [u8; 114688] {
-    [0u8; 114688]
+fn text_room() -> [u8; 81920] {
+    [0u8; 81920]
 }
 
 fn open(name: &[u8]) -> i32 {

@@ -93,8 +93,8 @@ fn too_long() -> [u8; 65537] {
     [b'\n'; 65537]
 }
 
-fn output() -> [u8; 1835036] {
-    [0u8; 1835036]
+fn output() -> [u8; 1310740] {
+    [0u8; 1310740]
 }
 
 // How many bytes the longest script prints, with a first line in front.

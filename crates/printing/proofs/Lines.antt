@@ -14,27 +14,56 @@ use Rattle.rules.specs.Text.{space, lineFeed, joinedBy}
 use Rattle.rules.specs.Script.{answerText, grantsText, outcomeText}
 use Rattle.splitting.specs.Split.{forget}
 use Rattle.text.specs.Writing.{Appended}
+use Rattle.text.proofs.Buffer.{appended-none}
 use Rattle.queue.specs.View.{waitersOf}
 use Rattle.head.specs.declared.Head.{Head}
 use Rattle.head.specs.View.{plainOf}
 use Rattle.printing.specs.declared.Counts.{Counts}
-use Rattle.printing.specs.Printed.{answerRoom, countsRoom, grantsRoom, lineRoom, Printed, countsText, lineText, ShownBy}
-use Rattle.printing.proofs.Chain.{printed-then, printed-byte}
+use Rattle.printing.specs.Printed.{countsText, lineText, ShownBy}
+use Rattle.printing.proofs.Chain.{together, Room, here, onward, joined}
 
 -- piece by piece
-line-pieces : (a : Answer) (c : Counts) (gs : List Grant) → answerText a ++ space ∷ [] ++ countsText c ++ grantsText gs ++ lineFeed ∷ [] ≡ lineText a c gs
+line-pieces : (a : Answer) (c : Counts) (gs : List Grant) → together (answerText a ∷ (space ∷ []) ∷ countsText c ∷ grantsText gs ∷ (lineFeed ∷ []) ∷ []) ≡ lineText a c gs
 unfolding joinedBy
 line-pieces a c gs = simp append-assoc
 
-pub line-printed : (old m₁ m₂ m₃ m₄ new : List ℕ) (at p₁ p₂ p₃ p₄ r : ℕ) (a : Answer) (c : Counts) (gs : List Grant) (n : ℕ) → at + lineRoom n ≤ length old
-    → Printed answerRoom old at (answerText a) m₁ p₁ → Appended m₁ p₁ (space ∷ []) m₂ p₂ → Printed countsRoom m₂ p₂ (countsText c) m₃ p₃ → Printed (grantsRoom n) m₃ p₃ (grantsText gs) m₄ p₄ → Appended m₄ p₄ (lineFeed ∷ []) new r
-    → Printed (lineRoom n) old at (lineText a c gs) new r
-line-printed old m₁ m₂ m₃ m₄ new at p₁ p₂ p₃ p₄ r a c gs n room w₁ w₂ w₃ w₄ w₅ =
-    rw (← line-pieces a c gs)
-    (printed-then (answerRoom + 1 + countsRoom + grantsRoom n) 1 (omega arith)
-    (printed-then (answerRoom + 1 + countsRoom) (grantsRoom n) (omega arith)
-    (printed-then (answerRoom + 1) countsRoom (omega arith)
-    (printed-then answerRoom 1 (omega arith) w₁ (printed-byte w₂)) w₃) w₄) (printed-byte w₅))
+module _ (old : List ℕ) (at : ℕ) (a : Answer) (c : Counts) (gs : List Grant) (room : at + length (lineText a c gs) ≤ length old) where
+  line-room : Room old at (answerText a ∷ (space ∷ []) ∷ countsText c ∷ grantsText gs ∷ (lineFeed ∷ []) ∷ [])
+  line-room = record { fits = rw (line-pieces a c gs) room }
+
+  pub room-answer : at + length (answerText a) ≤ length old
+  room-answer = here line-room
+
+  module _ (m₁ : List ℕ) (p₁ : ℕ) (w₁ : Appended old at (answerText a) m₁ p₁) where
+    pub room-blank : p₁ + 1 ≤ length m₁
+    room-blank = here (onward line-room w₁)
+
+    module _ (m₂ : List ℕ) (p₂ : ℕ) (w₂ : Appended m₁ p₁ (space ∷ []) m₂ p₂) where
+      rest-room : Room m₂ p₂ (countsText c ∷ grantsText gs ∷ (lineFeed ∷ []) ∷ [])
+      rest-room = onward (onward line-room w₁) w₂
+
+      pub room-counts : p₂ + length (countsText c) ≤ length m₂
+      room-counts = here rest-room
+
+      module _ (m₃ : List ℕ) (p₃ : ℕ) (w₃ : Appended m₂ p₂ (countsText c) m₃ p₃) where
+        pub room-grants : p₃ + length (grantsText gs) ≤ length m₃
+        room-grants = here (onward rest-room w₃)
+
+        module _ (m₄ : List ℕ) (p₄ : ℕ) (w₄ : Appended m₃ p₃ (grantsText gs) m₄ p₄) where
+          end-room : Room m₄ p₄ ((lineFeed ∷ []) ∷ [])
+          end-room = onward (onward rest-room w₃) w₄
+
+          pub room-end : p₄ + 1 ≤ length m₄
+          room-end = here end-room
+
+          pub line-written : (new : List ℕ) (r : ℕ) → Appended m₄ p₄ (lineFeed ∷ []) new r → Appended old at (lineText a c gs) new r
+          line-written new r w₅ =
+              rw (← line-pieces a c gs)
+              (joined line-room w₁
+              (joined (onward line-room w₁) w₂
+              (joined rest-room w₃
+              (joined (onward rest-room w₃) w₄
+              (joined end-room w₅ (appended-none new r))))))
 
 -- The line of an outcome, from what the code has of it.
 pub outcome-line : (o : Outcome) (c : Counts) → ShownBy c (forget (o .state)) → lineText (o .answer) c (o .grants) ≡ outcomeText o
@@ -52,6 +81,6 @@ head-shown h c a b d e slots tasks =
     record { available = a ∙ made-reserved (h .reservation .made) (h .reservation .slot) (h .stock); stock = b; closed = d; queued = e }
 
 -- A queue is no longer than its array.
-pub queued-fits : (h : Head) (n : ℕ) → length (h .waiters .slots) ≡ 32 → n ≡ length (waitersOf (h .waiters)) → n < 256
+pub queued-fits : (h : Head) (n : ℕ) → length (h .waiters .slots) ≡ 32 → n ≡ length (waitersOf (h .waiters)) → n < 4294967296
 unfolding waitersOf
 queued-fits h n e q = omega (arith, q, e, length-take (h .waiters .len) (h .waiters .slots))

@@ -9,22 +9,20 @@ ghost use Rattle.rules.specs.Script.{closedText, takerText, grantsText, answerT
 ghost use Rattle.replies.specs.Answers.{answerOf};
 ghost use Rattle.words.specs.View.{takerOf, grantsOf};
 ghost use Rattle.head.specs.View.{plainOf};
-ghost use Rattle.printing.specs.Printed.{smallRoom, fieldRoom, closedRoom, queuedRoom, countsRoom, answerRoom, nextRoom, restRoom, grantsRoom, lineRoom, Printed, takersText, restText, countsText, lineText, ShownBy};
+ghost use Rattle.text.specs.Writing.{Appended};
+ghost use Rattle.printing.specs.Printed.{takersText, restText, countsText, lineText, ShownBy};
 use head::Head;
 use replies::Reply;
 
 // A grant's first word is the number of a slot below this, and else a try.
 const TRY: u32 = 256;
 
-// Room for any line: with a grant for each slot.
-pub const LINE_ROOM: usize = 164;
-
 // What a line shows of the state: available, stock, closed or not, queue length.
 pub struct Counts {
     pub available: u32,
     pub stock: u32,
     pub closed: bool,
-    pub queued: u8,
+    pub queued: u32,
 }
 
 // What a line shows of any state: slots and tasks do not show.
@@ -32,7 +30,7 @@ pub fn counts_of(h: Head) -> Counts
     ensures { λ c. ⌜ ((slots tasks : List ℕ) → ShownBy c (plainOf h slots tasks)) ⌝ }
 {
     let available = h.available_permits();
-    let queued = h.queue_length() as u8;
+    let queued = h.queue_length() as u32;
     Counts {
         available,
         stock: h.stock,
@@ -41,18 +39,20 @@ pub fn counts_of(h: Head) -> Counts
     }
 }
 
+// Every printer below asks for room for its text, and for no more.
+
 // A byte's number.
 fn print_small(buf: &mut [u8], at: usize, n: u8) -> usize
-    requires { ⌜ at + smallRoom ≤ length (now buf) ⌝ }
-    ensures { λ r. ⌜ Printed smallRoom (now (buf .entry)) at (digits n) (now (buf .exit)) r ⌝ }
+    requires { ⌜ at + length (digits n) ≤ length (now buf) ⌝ }
+    ensures { λ r. ⌜ Appended (now (buf .entry)) at (digits n) (now (buf .exit)) r ⌝ }
 {
     text::print_number(buf, at, n as u32)
 }
 
 // A number and a space.
 fn print_field(buf: &mut [u8], at: usize, n: u32) -> usize
-    requires { ⌜ at + fieldRoom ≤ length (now buf) ⌝ }
-    ensures { λ r. ⌜ Printed fieldRoom (now (buf .entry)) at (digits n ++ space ∷ []) (now (buf .exit)) r ⌝ }
+    requires { ⌜ at + length (digits n ++ space ∷ []) ≤ length (now buf) ⌝ }
+    ensures { λ r. ⌜ Appended (now (buf .entry)) at (digits n ++ space ∷ []) (now (buf .exit)) r ⌝ }
 {
     let p = text::print_number(buf, at, n);
     text::put(buf, p, b" ")
@@ -65,39 +65,19 @@ pub fn bit(b: bool) -> u32
     if b { 1 } else { 0 }
 }
 
-// Closed 0 or 1 and a space.
-fn print_closed(buf: &mut [u8], at: usize, closed: bool) -> usize
-    requires { ⌜ at + closedRoom ≤ length (now buf) ⌝ }
-    ensures { λ r. ⌜ Printed closedRoom (now (buf .entry)) at (closedText closed ++ space ∷ []) (now (buf .exit)) r ⌝ }
-{
-    if closed {
-        return text::put(buf, at, b"1 ");
-    }
-    text::put(buf, at, b"0 ")
-}
-
-// The queue's length and a space.
-fn print_queued(buf: &mut [u8], at: usize, n: u8) -> usize
-    requires { ⌜ at + queuedRoom ≤ length (now buf) ⌝ }
-    ensures { λ r. ⌜ Printed queuedRoom (now (buf .entry)) at (digits n ++ space ∷ []) (now (buf .exit)) r ⌝ }
-{
-    let p = print_small(buf, at, n);
-    text::put(buf, p, b" ")
-}
-
 fn print_counts(buf: &mut [u8], at: usize, c: Counts) -> usize
-    requires { ⌜ at + countsRoom ≤ length (now buf) ⌝ }
-    ensures { λ r. ⌜ Printed countsRoom (now (buf .entry)) at (countsText c) (now (buf .exit)) r ⌝ }
+    requires { ⌜ at + length (countsText c) ≤ length (now buf) ⌝ }
+    ensures { λ r. ⌜ Appended (now (buf .entry)) at (countsText c) (now (buf .exit)) r ⌝ }
 {
     let p = print_field(buf, at, c.available);
     let q = print_field(buf, p, c.stock);
-    let r = print_closed(buf, q, c.closed);
-    print_queued(buf, r, c.queued)
+    let r = print_field(buf, q, bit(c.closed));
+    print_field(buf, r, c.queued)
 }
 
 fn print_answer(buf: &mut [u8], at: usize, a: Reply) -> usize
-    requires { ⌜ at + answerRoom ≤ length (now buf) ⌝ }
-    ensures { λ r. ⌜ Printed answerRoom (now (buf .entry)) at (answerText (answerOf a)) (now (buf .exit)) r ⌝ }
+    requires { ⌜ at + length (answerText (answerOf a)) ≤ length (now buf) ⌝ }
+    ensures { λ r. ⌜ Appended (now (buf .entry)) at (answerText (answerOf a)) (now (buf .exit)) r ⌝ }
 {
     match a {
         Reply::Done => text::put(buf, at, b"done"),
@@ -118,8 +98,8 @@ fn print_answer(buf: &mut [u8], at: usize, a: Reply) -> usize
 
 // Who took, by a grant's first word.
 fn print_taker(buf: &mut [u8], at: usize, taker: u32) -> usize
-    requires { ⌜ at + smallRoom ≤ length (now buf) ⌝ }
-    ensures { λ r. ⌜ Printed smallRoom (now (buf .entry)) at (takerText (takerOf taker)) (now (buf .exit)) r ⌝ }
+    requires { ⌜ at + length (takerText (takerOf taker)) ≤ length (now buf) ⌝ }
+    ensures { λ r. ⌜ Appended (now (buf .entry)) at (takerText (takerOf taker)) (now (buf .exit)) r ⌝ }
 {
     if taker < TRY {
         return text::print_number(buf, at, taker);
@@ -128,8 +108,8 @@ fn print_taker(buf: &mut [u8], at: usize, taker: u32) -> usize
 }
 
 fn print_next(buf: &mut [u8], at: usize, taker: u32) -> usize
-    requires { ⌜ at + nextRoom ≤ length (now buf) ⌝ }
-    ensures { λ r. ⌜ Printed nextRoom (now (buf .entry)) at (comma ∷ takerText (takerOf taker)) (now (buf .exit)) r ⌝ }
+    requires { ⌜ at + length (comma ∷ takerText (takerOf taker)) ≤ length (now buf) ⌝ }
+    ensures { λ r. ⌜ Appended (now (buf .entry)) at (comma ∷ takerText (takerOf taker)) (now (buf .exit)) r ⌝ }
 {
     let p = text::put(buf, at, b",");
     print_taker(buf, p, taker)
@@ -137,8 +117,8 @@ fn print_next(buf: &mut [u8], at: usize, taker: u32) -> usize
 
 // The takers of n grants but the very first, a comma before each.
 fn print_rest(buf: &mut [u8], at: usize, grants: &[u32], n: usize) -> usize
-    requires { ⌜ (0 < n) × (n ≤ slotCount) × (length (now grants) ≡ slotCount * 3) × (at + restRoom n ≤ length (now buf)) ⌝ }
-    ensures { λ r. ⌜ Printed (restRoom n) (now (buf .entry)) at (restText (grantsOf n (now (grants .entry)))) (now (buf .exit)) r ⌝ }
+    requires { ⌜ (0 < n) × (n ≤ slotCount) × (length (now grants) ≡ slotCount * 3) × (at + length (restText (grantsOf n (now grants))) ≤ length (now buf)) ⌝ }
+    ensures { λ r. ⌜ Appended (now (buf .entry)) at (restText (grantsOf n (now (grants .entry)))) (now (buf .exit)) r ⌝ }
 {
     let mut p = at;
     let mut i: usize = 1;
@@ -152,8 +132,8 @@ fn print_rest(buf: &mut [u8], at: usize, grants: &[u32], n: usize) -> usize
 
 // The takers of n grants, joined by commas.
 fn print_takers(buf: &mut [u8], at: usize, grants: &[u32], n: usize) -> usize
-    requires { ⌜ (0 < n) × (n ≤ slotCount) × (length (now grants) ≡ slotCount * 3) × (at + grantsRoom n ≤ length (now buf)) ⌝ }
-    ensures { λ r. ⌜ Printed (grantsRoom n) (now (buf .entry)) at (takersText (grantsOf n (now (grants .entry)))) (now (buf .exit)) r ⌝ }
+    requires { ⌜ (0 < n) × (n ≤ slotCount) × (length (now grants) ≡ slotCount * 3) × (at + length (takersText (grantsOf n (now grants))) ≤ length (now buf)) ⌝ }
+    ensures { λ r. ⌜ Appended (now (buf .entry)) at (takersText (grantsOf n (now (grants .entry)))) (now (buf .exit)) r ⌝ }
 {
     let taker = grants[0];
     let p = print_taker(buf, at, taker);
@@ -161,8 +141,8 @@ fn print_takers(buf: &mut [u8], at: usize, grants: &[u32], n: usize) -> usize
 }
 
 fn print_grants(buf: &mut [u8], at: usize, grants: &[u32], n: usize) -> usize
-    requires { ⌜ (n ≤ slotCount) × (length (now grants) ≡ slotCount * 3) × (at + grantsRoom n ≤ length (now buf)) ⌝ }
-    ensures { λ r. ⌜ Printed (grantsRoom n) (now (buf .entry)) at (grantsText (grantsOf n (now (grants .entry)))) (now (buf .exit)) r ⌝ }
+    requires { ⌜ (n ≤ slotCount) × (length (now grants) ≡ slotCount * 3) × (at + length (grantsText (grantsOf n (now grants))) ≤ length (now buf)) ⌝ }
+    ensures { λ r. ⌜ Appended (now (buf .entry)) at (grantsText (grantsOf n (now (grants .entry)))) (now (buf .exit)) r ⌝ }
 {
     if n == 0 {
         return text::put(buf, at, b"-");
@@ -172,8 +152,8 @@ fn print_grants(buf: &mut [u8], at: usize, grants: &[u32], n: usize) -> usize
 
 // The whole line.
 pub fn print_line(buf: &mut [u8], at: usize, a: Reply, c: Counts, grants: &[u32], n: usize) -> usize
-    requires { ⌜ (n ≤ slotCount) × (length (now grants) ≡ slotCount * 3) × (at + lineRoom n ≤ length (now buf)) ⌝ }
-    ensures { λ r. ⌜ Printed (lineRoom n) (now (buf .entry)) at (lineText (answerOf a) c (grantsOf n (now (grants .entry)))) (now (buf .exit)) r ⌝ }
+    requires { ⌜ (n ≤ slotCount) × (length (now grants) ≡ slotCount * 3) × (at + length (lineText (answerOf a) c (grantsOf n (now grants))) ≤ length (now buf)) ⌝ }
+    ensures { λ r. ⌜ Appended (now (buf .entry)) at (lineText (answerOf a) c (grantsOf n (now (grants .entry)))) (now (buf .exit)) r ⌝ }
 {
     let p = print_answer(buf, at, a);
     let q = text::put(buf, p, b" ");

@@ -1,5 +1,5 @@
 -- Conservation: what a step takes from the stock it grants, and what it adds was released or given up.
-use Prim.Native.Nat.{ℕ, _+_, _-_, _≤_}
+use Prim.Native.Nat.{ℕ, zero, suc, _+_, _-_, _≤_, _<_}
 use native.Mathlib.Omega.{arith}
 use mathlib.Core.Path.{_≡_, refl, sym, ap, _∙_}
 use mathlib.Core.Bool.{false, Bool, cond, not, _&&_}
@@ -16,12 +16,13 @@ use Rattle.rules.specs.declared.Dropping.{Dropping}
 use Rattle.rules.specs.declared.Dropping.the-variants.{Leaving, Unreserving, Returning, Nothing}
 use Rattle.rules.specs.declared.Act.{Act}
 use Rattle.rules.specs.declared.Step.{Step}
+use Rattle.rules.specs.Sizes.{largest}
 use Rattle.rules.specs.State.{Permits, State, stock, requestAt, askedAt, withReservation, alterRequest}
 use Rattle.rules.specs.Taking.{takeAs, adding, direct}
 use Rattle.rules.specs.Scan.{leave, queueGrant, walk, scan}
 use Rattle.rules.specs.Polling.{polling, pollWork, pollGrants, pollMark, polled}
 use Rattle.rules.specs.Steps.{Sort, bySort, make, tryBy, poll, addReleased, release, dropping, dropWork, dropRequest, effectOf}
-use Rattle.rules.specs.Refusals.{refusal, returned}
+use Rattle.rules.specs.Refusals.{refusal, returned, givesBack}
 use Rattle.rules.specs.Runs.{step, unless, run}
 use Rattle.rules.specs.Promises.{counts, grantedIn, releases, givesUp, ifAccepted, overRun, releasedIn, givenUpIn}
 use Rattle.rules.specs.Sound.{Sound}
@@ -33,7 +34,7 @@ use Rattle.rules.proofs.KeepsTaking.{take-stock}
 use Rattle.rules.proofs.KeepsScan.{by-walk, granted-stock}
 use Rattle.rules.proofs.Decisions.{unfulfilled, PollSays, poll-says, by-release, by-drop-queued, DropSays, drop-says}
 use Rattle.rules.proofs.Unchanged.{Untouched, untouched-roused, untouched-wake, untouched-closing}
-use Rattle.rules.proofs.KeepsSteps.{take-fits, sound-step}
+use Rattle.rules.proofs.KeepsSteps.{take-fits, by-refusal, sound-step}
 
 pub counts-append : (gs hs : List Grant) → counts (gs ++ hs) ≡ counts gs + counts hs
 unfolding counts
@@ -172,3 +173,28 @@ run-balance [] s h = omega arith
 run-balance (a ∷ as′) s h =
     let b = step a s .state in
     omega (arith, run-balance as′ b (sound-step a s h), step-balance a s h, accepted-sum (refusal a s) (releases (a .act)) (givesUp (a .act) s))
+
+-- What 10 does not refuse carries no stock past the largest.
+
+added-fits : (m n : ℕ) → m ≤ largest → (0 < n → m + n ≤ largest) → m + n ≤ largest
+added-fits m zero l f = omega arith
+added-fits m (suc n) l f = f (omega arith)
+
+act-stock : (t : TaskId) (a : Act) (s : State) → stock s ≤ largest → Allowed t a s → stock (effectOf t a s .state) ≤ largest
+unfolding make poll dropRequest
+act-stock t a s l k =
+    by-act {X = λ o r. stock (r .state) ≤ largest}
+    (record {
+      makes = λ b m. l;
+      polls = λ x p. omega (arith, poll-balance (polling x s) t x s (poll-says x s));
+      tries = λ p n m c. omega (arith, try-balance (direct p n s) t n s (take-fits p n s));
+      releases = λ n r. omega (arith, added-fits (stock s) n l (r .fits), release-balance t n s);
+      drops = λ x u r. omega (arith, added-fits (stock s) (givesBack x s) l (r .fits), drop-balance (dropping x s) t x s);
+      closes = omega (arith, stock-of (untouched-closing s));
+      sleeps = l;
+      finishes = l;
+    })
+    a k
+
+pub step-stock : (a : Step) (s : State) → stock s ≤ largest → stock (step a s .state) ≤ largest
+step-stock a s l = by-refusal (λ o. stock (o .state) ≤ largest) a s (λ e. act-stock (a .actor) (a .act) s l (accepted a s e .allowed)) (λ n e. l)

@@ -26,6 +26,7 @@ pub mod PassedOver
 pub mod Places
 pub mod Promises
 pub mod Queues
+pub mod Rooms
 pub mod Scripts
 pub mod Slots
 pub mod Soundness

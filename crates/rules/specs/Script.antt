@@ -191,3 +191,9 @@ longest = 65_536
 -- What `semtrace` prints for the bytes that it is given; more than it reads prints only `long`.
 unfoldable pub printed : List ℕ → List ℕ
 printed s = cond (ltb longest (length s)) (endLine (bytes "long")) (program (lines s))
+
+-- What it prints is at most so many bytes for each byte of the script (proofs/Rooms.antt): a line that can take permits has at least 6 bytes,
+-- its line feed counted, and prints at most 118; one that says a start or any other step has at least 2 and prints at most 37; any other
+-- prints 4, and a script that is too long 5.
+abbrev pub byteRoom : ℕ
+byteRoom = 20

@@ -2,4 +2,3 @@ pub mod Letters
 pub mod Onward
 pub mod Within
 pub mod FirstLine
-pub mod Short

@@ -1,5 +1,5 @@
 -- The first line: what it came to, and the lines behind it; the whole script.
-use Prim.Native.Nat.{ℕ, _+_, _*_, _-_, _/_, _≤_, _<_}
+use Prim.Native.Nat.{ℕ, _+_, _*_, _/_, _≤_, _<_}
 use native.Mathlib.Nat.{div-add-mod'}
 use native.Mathlib.Omega.{arith}
 use mathlib.Core.Path.{_≡_, refl, sym}
@@ -9,11 +9,12 @@ use lib.ListN.{length, drop}
 use lib.Seq.{length-take-le}
 use Rattle.rules.specs.Sizes.{slotCount}
 use Rattle.rules.specs.Text.{lines}
-use Rattle.rules.specs.Script.{outcomeText, trace, program, longest, printed}
+use Rattle.rules.specs.Script.{outcomeText, trace, program, longest, printed, byteRoom}
 use Rattle.rules.proofs.Scripts.{long-printed, short-printed}
+use Rattle.rules.proofs.Rooms.{printed-short}
 use Rattle.tables.specs.Table.{table}
 use Rattle.text.specs.Writing.{Appended}
-use Rattle.text.proofs.Buffer.{appended-none}
+use Rattle.text.proofs.Buffer.{appended-none, appended-then}
 use Rattle.replies.specs.declared.Reply.the-variants.{Done}
 use Rattle.words.specs.View.{grantsOf}
 use Rattle.state.specs.declared.BatchSemaphore.{BatchSemaphore}
@@ -21,57 +22,59 @@ use Rattle.state.specs.View.{Words, words, viewOf, outcomeOf, ShapedAll, Fit}
 use Rattle.walking.specs.declared.Begun.{Begun}
 use Rattle.walking.specs.declared.Beginning.the-variants.{Fresh, Refused, Bad, Nothing}
 use Rattle.walking.specs.Coming.{Begins}
-use Rattle.walking.proofs.Firsts.{start-bytes}
 use Rattle.walking.proofs.Printed.{fresh-prints, refused-prints, bad-prints, nothing-prints}
-use Rattle.printing.specs.Printed.{lineRoom, Printed}
-use Rattle.printing.proofs.Chain.{printed-then, printed-longer}
-use Rattle.trace.specs.Running.{byteRoom, badRoom, room, firstOf, Prints}
+use Rattle.printing.proofs.Chain.{Room, pair, here, onward}
+use Rattle.trace.specs.Running.{room, firstOf, Prints}
+use Rattle.trace.proofs.Turns.{same-text}
 
 -- The line of the fresh state, and the lines behind it.
-pub fresh-printed : (k : ℕ) {s : BatchSemaphore} {w : Words} {gs old mid new ys : List ℕ} {n r : ℕ} → lineRoom 0 + k ≤ length old → Fit s w gs
-    → ((v : Words) → Printed (lineRoom 0) old 0 (outcomeText (outcomeOf (record { reply = Done; count = 0; state = s }) v gs)) mid n) → Printed k mid n ys new r
-    → Printed (lineRoom 0 + k) old 0 (firstOf (viewOf s w) ++ ys) new r
-unfolding grantsOf table
-fresh-printed k {w = w} h f a b = printed-then (lineRoom 0) k (omega arith) (a w) b
+module _ {s : BatchSemaphore} {w : Words} {gs old ys : List ℕ} (f : Fit s w gs) (room : length (firstOf (viewOf s w) ++ ys) ≤ length old) where
+  abbrev firstText : Words → List ℕ
+  firstText v = outcomeText (outcomeOf (record { reply = Done; count = 0; state = s }) v gs)
 
-pub fresh-room : (k : ℕ) {s : BatchSemaphore} {w : Words} {gs old mid : List ℕ} {t : Words → List ℕ} {n : ℕ} → lineRoom 0 + k ≤ length old → length mid ≡ length old → Fit s w gs → ((v : Words) → Printed (lineRoom 0) old 0 (t v) mid n) → n + k ≤ length mid
-fresh-room k {w = w} h l f p = omega (arith, p w .written .end, p w .short)
+  first-room : Room old 0 (firstText w ∷ ys ∷ [])
+  unfolding grantsOf table
+  first-room = pair (firstText w) ys (omega (arith, room))
+
+  pub fresh-line : (v : Words) → 0 + length (firstText v) ≤ length old
+  fresh-line v = rw (same-text (record { reply = Done; count = 0; state = s }) gs v w) (here first-room)
+
+  module _ {mid : List ℕ} {n : ℕ} (a : (v : Words) → Appended old 0 (firstText v) mid n) where
+    pub fresh-room : n + length ys ≤ length mid
+    fresh-room = here (onward first-room (a w))
+
+    pub fresh-printed : {new : List ℕ} {r : ℕ} → Appended mid n ys new r → Appended old 0 (firstOf (viewOf s w) ++ ys) new r
+    unfolding grantsOf table
+    fresh-printed b = appended-then (a w) (here first-room) b
 
 -- The whole script, by what its first line came to.
 module _ {script : List ℕ} {r : Begun} {w : Words} (b : Begins false script r w) where
-  pub whole-within : r .how ≡ Fresh → r .next ≤ length script
-  whole-within q = b .fresh q .within
+  module _ {m : ℕ} (h : length (program (lines script)) ≤ m) where
+    pub whole-room : r .how ≡ Fresh → length (firstOf (viewOf (r .state) w) ++ trace (viewOf (r .state) w) (lines (drop (r .next) script))) ≤ m
+    whole-room q = rw (fresh-prints (b .fresh q)) at h
 
-  first-short : r .how ≡ Fresh → lineRoom 0 + byteRoom * (length script - r .next) ≤ room script
-  first-short q = let f = b .fresh q in omega (arith, start-bytes (f .line) (f .start) (f .says), f .bytes, f .within)
+    pub refused-room : r .how ≡ Refused → 4 ≤ m
+    refused-room q = rw (refused-prints (b .refused q)) at h
 
-  pub whole-room : {m : ℕ} → r .how ≡ Fresh → room script ≤ m → lineRoom 0 + byteRoom * (length script - r .next) ≤ m
-  whole-room q h = omega (arith, first-short q)
-
-  pub refused-room : (m : ℕ) → r .how ≡ Refused → room script ≤ m → badRoom ≤ m
-  refused-room m q h = omega (arith, b .refused q .some-bytes)
-
-  pub bad-room : (m : ℕ) → r .how ≡ Bad → room script ≤ m → badRoom ≤ m
-  bad-room m q h = omega (arith, b .bad q .some-bytes)
+    pub bad-room : r .how ≡ Bad → 4 ≤ m
+    bad-room q = rw (bad-prints (b .bad q)) at h
 
   pub whole-fit : {gs : List ℕ} → r .how ≡ Fresh → length gs ≡ slotCount * 3 → Fit (r .state) w gs
   whole-fit q l = let g = b .fresh q .begins in record { shaped = g .shaped; grants = l; sound = g .sound }
 
   module _ {old new : List ℕ} {e : ℕ} where
-    pub whole-fresh : r .how ≡ Fresh
-        → Printed (lineRoom 0 + byteRoom * (length script - r .next)) old 0 (firstOf (viewOf (r .state) w) ++ trace (viewOf (r .state) w) (lines (drop (r .next) script))) new e
-        → Printed (room script) old 0 (program (lines script)) new e
-    whole-fresh q p = rw (fresh-prints (b .fresh q)) (printed-longer (first-short q) p)
+    pub whole-fresh : r .how ≡ Fresh → Appended old 0 (firstOf (viewOf (r .state) w) ++ trace (viewOf (r .state) w) (lines (drop (r .next) script))) new e
+        → Appended old 0 (program (lines script)) new e
+    whole-fresh q a = rw (fresh-prints (b .fresh q)) a
 
-    pub whole-refused : r .how ≡ Refused → Appended old 0 (114 ∷ 49 ∷ 50 ∷ 10 ∷ []) new e → Printed (room script) old 0 (program (lines script)) new e
-    whole-refused q a = rw (refused-prints (b .refused q)) (record { written = a; short = omega (arith, b .refused q .some-bytes) })
+    pub whole-refused : r .how ≡ Refused → Appended old 0 (114 ∷ 49 ∷ 50 ∷ 10 ∷ []) new e → Appended old 0 (program (lines script)) new e
+    whole-refused q a = rw (refused-prints (b .refused q)) a
 
-    pub whole-bad : r .how ≡ Bad → Appended old 0 (98 ∷ 97 ∷ 100 ∷ 10 ∷ []) new e → Printed (room script) old 0 (program (lines script)) new e
-    whole-bad q a = rw (bad-prints (b .bad q)) (record { written = a; short = omega (arith, b .bad q .some-bytes) })
+    pub whole-bad : r .how ≡ Bad → Appended old 0 (98 ∷ 97 ∷ 100 ∷ 10 ∷ []) new e → Appended old 0 (program (lines script)) new e
+    whole-bad q a = rw (bad-prints (b .bad q)) a
 
-  pub whole-none : {old : List ℕ} → r .how ≡ Nothing → Printed (room script) old 0 (program (lines script)) old 0
-  whole-none {old} q =
-      rw (nothing-prints script (b .nothing q)) (record { written = appended-none old 0; short = omega arith })
+  pub whole-none : {old : List ℕ} → r .how ≡ Nothing → Appended old 0 (program (lines script)) old 0
+  whole-none {old} q = rw (nothing-prints script (b .nothing q)) (appended-none old 0)
 
 -- the words that a fresh state stands in are of their lengths
 module _ {script : List ℕ} {r : Begun} {slots tasks sizes rows last makers clocks : List ℕ} (b : Begins false script r (words slots tasks sizes rows last makers clocks)) (q : r .how ≡ Fresh) where
@@ -100,24 +103,36 @@ module _ {script : List ℕ} {r : Begun} {slots tasks sizes rows last makers clo
   clocks-there = sym (shaped .clocks)
 
 -- More than 65,536 bytes print only `long`.
-module _ (script old new : List ℕ) (r : ℕ) where
-  pub long-in : longest < length script → Appended old 0 (108 ∷ 111 ∷ 110 ∷ 103 ∷ 10 ∷ []) new r → Printed (room script) old 0 (printed script) new r
-  long-in h w = rw (long-printed script h) (record { written = w; short = omega arith })
+module _ (script old : List ℕ) where
+  module _ (h : longest < length script) where
+    pub long-room : length (printed script) ≤ length old → 5 ≤ length old
+    long-room l = rw (long-printed script h) at l
 
-  pub short-in : length script ≤ longest → Printed (room script) old 0 (program (lines script)) new r → Printed (room script) old 0 (printed script) new r
-  short-in h b = rw (short-printed script h) b
+    pub long-in : (new : List ℕ) (r : ℕ) → Appended old 0 (108 ∷ 111 ∷ 110 ∷ 103 ∷ 10 ∷ []) new r → Appended old 0 (printed script) new r
+    long-in new r a = rw (long-printed script h) a
+
+  module _ (h : length script ≤ longest) where
+    pub program-fits : length (printed script) ≤ length old → length (program (lines script)) ≤ length old
+    program-fits l = rw (short-printed script h) at l
+
+    pub short-in : (new : List ℕ) (r : ℕ) → Appended old 0 (program (lines script)) new r → Appended old 0 (printed script) new r
+    short-in new r a = rw (short-printed script h) a
 
   -- with room
-  pub prints-in : room script ≤ length old → length new ≡ length old → Printed (room script) old 0 (printed script) new r → Prints script old new r
-  prints-in k l b =
-      let fits : r ≤ length new = omega (arith, b .written .end, b .short) in
-      record {
-        text = λ _. b .written .whole;
-        count = λ _. omega (arith, b .written .end);
-        short = λ h. absurd (omega arith);
-        fits = fits;
-        counted = sym (length-take-le r new fits);
-      }
+  module _ (k : room script ≤ length old) where
+    pub printed-fits : length (printed script) ≤ length old
+    printed-fits = omega (arith, printed-short script)
+
+    pub prints-in : (new : List ℕ) (r : ℕ) → length new ≡ length old → Appended old 0 (printed script) new r → Prints script old new r
+    prints-in new r l b =
+        let fits : r ≤ length new = omega (arith, b .end, printed-fits) in
+        record {
+          text = λ _. b .whole;
+          count = λ _. omega (arith, b .end);
+          short = λ h. absurd (omega arith);
+          fits = fits;
+          counted = sym (length-take-le r new fits);
+        }
 
 -- and without
 pub prints-nothing : (script old : List ℕ) → length old < room script → Prints script old old 0

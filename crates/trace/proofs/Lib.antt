@@ -1,4 +1,3 @@
-pub mod Rooms
 pub mod Turns
 pub mod Firsts
 pub mod Once

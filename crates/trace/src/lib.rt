@@ -1,15 +1,15 @@
 // A script run: from its bytes to the bytes that are printed for it. What each line comes to is `walking`'s; here it is printed.
 ghost use mathlib.Core.Path.{_≡_};
 ghost use mathlib.Core.List.{_++_};
-ghost use Prim.Native.Nat.{_+_, _*_, _-_, _≤_};
+ghost use Prim.Native.Nat.{_+_, _*_, _≤_};
 ghost use lib.ListN.{length, drop};
 ghost use Rattle.rules.specs.Sizes.{slotCount};
 ghost use Rattle.rules.specs.Text.{lines};
 ghost use Rattle.rules.specs.Script.{outcomeText, trace as traced, program, printed};
 ghost use Rattle.state.specs.View.{Words, words, viewOf, outcomeOf, Fit};
 ghost use Rattle.walking.specs.Coming.{textOf, came};
-ghost use Rattle.printing.specs.Printed.{lineRoom, Printed};
-ghost use Rattle.trace.specs.Running.{byteRoom, room, cameRoom, firstOf, Prints};
+ghost use Rattle.text.specs.Writing.{Appended};
+ghost use Rattle.trace.specs.Running.{firstOf, Prints};
 use replies::Reply;
 use state::BatchSemaphore;
 use state::Stepped;
@@ -21,17 +21,16 @@ pub const LONGEST: usize = 65536;
 
 pub const INPUT: usize = LONGEST + 1;
 
-// Room in the buffer for each byte of a script: a line that can take permits has at least 6 bytes and prints at most 164, one that says
-// any other step has at least 4 and prints at most 40, and any other line prints 4.
-pub const BYTE_ROOM: usize = 28;
+// Room in the buffer for each byte of a script: no script prints more (`printed-short`, crates/rules/proofs/Rooms.antt).
+pub const BYTE_ROOM: usize = 20;
 
 // Room for all that is read.
 pub const OUTPUT: usize = BYTE_ROOM * INPUT;
 
 // The line of a step that was taken.
 fn print_step(out: &mut [u8], n: usize, r: Stepped, grants: &[u32]) -> usize
-    requires { ⌜ (r .count ≤ slotCount) × (length (now grants) ≡ slotCount * 3) × (n + lineRoom (r .count) ≤ length (now out)) ⌝ }
-    ensures { λ e. ⌜ ((w : Words) → Printed (lineRoom (r .count)) (now (out .entry)) n (outcomeText (outcomeOf r w (now (grants .entry)))) (now (out .exit)) e) ⌝ }
+    requires { ⌜ (r .count ≤ slotCount) × (length (now grants) ≡ slotCount * 3) × ((w : Words) → n + length (outcomeText (outcomeOf r w (now grants))) ≤ length (now out)) ⌝ }
+    ensures { λ e. ⌜ ((w : Words) → Appended (now (out .entry)) n (outcomeText (outcomeOf r w (now (grants .entry)))) (now (out .exit)) e) ⌝ }
 {
     let reply = r.reply;
     let state = r.state;
@@ -41,8 +40,8 @@ fn print_step(out: &mut [u8], n: usize, r: Stepped, grants: &[u32]) -> usize
 
 // The line of what a line came to.
 fn print_walked(out: &mut [u8], n: usize, r: Walked, grants: &[u32]) -> usize
-    requires { ⌜ (r .out .count ≤ slotCount) × (length (now grants) ≡ slotCount * 3) × (n + cameRoom r ≤ length (now out)) ⌝ }
-    ensures { λ e. ⌜ ((w : Words) → Printed (cameRoom r) (now (out .entry)) n (textOf (came r w (now (grants .entry)))) (now (out .exit)) e) ⌝ }
+    requires { ⌜ (r .out .count ≤ slotCount) × (length (now grants) ≡ slotCount * 3) × ((w : Words) → n + length (textOf (came r w (now grants))) ≤ length (now out)) ⌝ }
+    ensures { λ e. ⌜ ((w : Words) → Appended (now (out .entry)) n (textOf (came r w (now (grants .entry)))) (now (out .exit)) e) ⌝ }
 {
     if r.bad {
         return text::put(out, n, b"bad\n");
@@ -66,8 +65,8 @@ fn run_lines(
     clocks: &mut [u32],
     grants: &mut [u32],
 ) -> usize
-    requires { ⌜ (from ≤ length (now script)) × (start + byteRoom * (length (now script) - from) ≤ length (now out)) × Fit first (words (now slots) (now tasks) (now sizes) (now rows) (now last) (now makers) (now clocks)) (now grants) ⌝ }
-    ensures { λ r. ⌜ Printed (byteRoom * (length (now (script .entry)) - from)) (now (out .entry)) start (traced (viewOf first (words (now (slots .entry)) (now (tasks .entry)) (now (sizes .entry)) (now (rows .entry)) (now (last .entry)) (now (makers .entry)) (now (clocks .entry)))) (lines (drop from (now (script .entry))))) (now (out .exit)) r ⌝ }
+    requires { ⌜ (start + length (traced (viewOf first (words (now slots) (now tasks) (now sizes) (now rows) (now last) (now makers) (now clocks))) (lines (drop from (now script)))) ≤ length (now out)) × Fit first (words (now slots) (now tasks) (now sizes) (now rows) (now last) (now makers) (now clocks)) (now grants) ⌝ }
+    ensures { λ r. ⌜ Appended (now (out .entry)) start (traced (viewOf first (words (now (slots .entry)) (now (tasks .entry)) (now (sizes .entry)) (now (rows .entry)) (now (last .entry)) (now (makers .entry)) (now (clocks .entry)))) (lines (drop from (now (script .entry))))) (now (out .exit)) r ⌝ }
 {
     let mut at = from;
     let mut s = first;
@@ -109,8 +108,8 @@ fn run_fresh(
     clocks: &mut [u32],
     grants: &mut [u32],
 ) -> usize
-    requires { ⌜ (from ≤ length (now script)) × (lineRoom 0 + byteRoom * (length (now script) - from) ≤ length (now out)) × Fit s (words (now slots) (now tasks) (now sizes) (now rows) (now last) (now makers) (now clocks)) (now grants) ⌝ }
-    ensures { λ r. ⌜ Printed (lineRoom 0 + byteRoom * (length (now (script .entry)) - from)) (now (out .entry)) 0 (firstOf (viewOf s (words (now (slots .entry)) (now (tasks .entry)) (now (sizes .entry)) (now (rows .entry)) (now (last .entry)) (now (makers .entry)) (now (clocks .entry)))) ++ traced (viewOf s (words (now (slots .entry)) (now (tasks .entry)) (now (sizes .entry)) (now (rows .entry)) (now (last .entry)) (now (makers .entry)) (now (clocks .entry)))) (lines (drop from (now (script .entry))))) (now (out .exit)) r ⌝ }
+    requires { ⌜ (length (firstOf (viewOf s (words (now slots) (now tasks) (now sizes) (now rows) (now last) (now makers) (now clocks))) ++ traced (viewOf s (words (now slots) (now tasks) (now sizes) (now rows) (now last) (now makers) (now clocks))) (lines (drop from (now script)))) ≤ length (now out)) × Fit s (words (now slots) (now tasks) (now sizes) (now rows) (now last) (now makers) (now clocks)) (now grants) ⌝ }
+    ensures { λ r. ⌜ Appended (now (out .entry)) 0 (firstOf (viewOf s (words (now (slots .entry)) (now (tasks .entry)) (now (sizes .entry)) (now (rows .entry)) (now (last .entry)) (now (makers .entry)) (now (clocks .entry)))) ++ traced (viewOf s (words (now (slots .entry)) (now (tasks .entry)) (now (sizes .entry)) (now (rows .entry)) (now (last .entry)) (now (makers .entry)) (now (clocks .entry)))) (lines (drop from (now (script .entry))))) (now (out .exit)) r ⌝ }
 {
     let first = Stepped {
         reply: Reply::Done,
@@ -137,8 +136,8 @@ fn run_fresh(
 
 // A script of any length that fits: here the state's arrays are made.
 fn run_whole(script: &[u8], out: &mut [u8]) -> usize
-    requires { ⌜ room (now script) ≤ length (now out) ⌝ }
-    ensures { λ r. ⌜ Printed (room (now (script .entry))) (now (out .entry)) 0 (program (lines (now (script .entry)))) (now (out .exit)) r ⌝ }
+    requires { ⌜ length (program (lines (now script))) ≤ length (now out) ⌝ }
+    ensures { λ r. ⌜ Appended (now (out .entry)) 0 (program (lines (now (script .entry)))) (now (out .exit)) r ⌝ }
 {
     let mut slots = [0u32; 320];
     let mut tasks = [0u32; 32];
@@ -183,8 +182,8 @@ fn run_whole(script: &[u8], out: &mut [u8]) -> usize
 
 // A script of any length, with room for what it prints.
 fn run_in(script: &[u8], out: &mut [u8]) -> usize
-    requires { ⌜ room (now script) ≤ length (now out) ⌝ }
-    ensures { λ r. ⌜ Printed (room (now (script .entry))) (now (out .entry)) 0 (printed (now (script .entry))) (now (out .exit)) r ⌝ }
+    requires { ⌜ length (printed (now script)) ≤ length (now out) ⌝ }
+    ensures { λ r. ⌜ Appended (now (out .entry)) 0 (printed (now (script .entry))) (now (out .exit)) r ⌝ }
 {
     if LONGEST < script.len() {
         return text::put(out, 0, b"long\n");

@@ -12,13 +12,12 @@ use Rattle.rules.specs.Steps.{Outcome, quiet}
 use Rattle.rules.specs.Steps.Answer.{done, refused}
 use Rattle.rules.specs.Runs.{start}
 use Rattle.rules.specs.Text.{Line, lines}
-use Rattle.rules.specs.Script.{startOf, said}
+use Rattle.rules.specs.Script.{said}
 use Rattle.state.specs.View.{Words}
 use Rattle.fresh.specs.declared.Started.{Started}
 use Rattle.fresh.specs.Starting.{Gives}
 use Rattle.fresh.proofs.Starts.{refused-exactly, accepted-fresh, started-sound}
 use Rattle.script.specs.declared.First.{First}
-use Rattle.script.proofs.Short.{start-length}
 use Rattle.reading.specs.Steps.{lineBytes}
 use Rattle.reading.specs.declared.FirstLine.{FirstLine}
 use Rattle.reading.specs.declared.FirstLine.the-variants.{Is as Says, Bad as SaysNothing, Nothing as NoLine}
@@ -51,19 +50,12 @@ module _ (a c : Start) (e : start a ≡ start c) where
       let p : start a .state ≡ start c .state = ap (λ (o : Outcome). o .state) e in
       rw (f, g) at p
 
--- a line that says anything has bytes; one that says a start in document 01's words has four
+-- a line that says anything has bytes
 said-bytes : (f : List ℕ → Option Start) (l : Line) (a : Start) → said f l ≡ some a → 1 ≤ lineBytes l
 said-bytes f l a e = go (l .ended) refl
   where
     go : (b : Bool) → l .ended ≡ b → 1 ≤ lineBytes l
     go true q = rw q (omega arith)
-    go false q = let p = rw q at e in let z : _≡_ {A = ℕ} 0 1 = cc in absurd (omega arith)
-
-pub start-bytes : (l : Line) (a : Start) → said startOf l ≡ some a → 4 ≤ lineBytes l
-start-bytes l a e = go (l .ended) refl
-  where
-    go : (b : Bool) → l .ended ≡ b → 4 ≤ lineBytes l
-    go true q = rw q (omega (arith, start-length (l .content) a (rw q at e)))
     go false q = let p = rw q at e in let z : _≡_ {A = ℕ} 0 1 = cc in absurd (omega arith)
 
 -- a start that the first line says

@@ -1,6 +1,6 @@
--- `printing::print_field`: at most ten digits and the space.
+-- `printing::print_field`: the digits and the space.
 use borrow.Author.Needs.{needs}
-use Rattle.printing.proofs.Chain.{room-number, room-space, printed-field}
+use Rattle.printing.proofs.Chain.{room-number, room-space, field-written}
 use Rattle.printing.proofs.print_field.Statement.{statement}
 use Rattle.printing.proofs.print_field.Tie as tie
 
@@ -17,7 +17,7 @@ same-length : tie.Need-same-length
 same-length c = search needs
 
 returns : tie.Need-returns
-returns c = search (printed-field, needs)
+returns c = search (field-written, needs)
 
 pub print-field-spec : {M : Type 1} → statement M
 print-field-spec =

@@ -1,17 +1,18 @@
 -- `printing::print_rest`: the takers up to the place reached are written.
-use Prim.Native.Nat.{_≤_, _<_, _*_, _-_}
+use Prim.Native.Nat.{_≤_, _<_, _-_}
 use mathlib.Core.Path.{_≡_}
 use borrow.Author.Needs.{needs}
 use lib.ListN.{length}
 use Rattle.words.specs.View.{grantsOf}
-use Rattle.printing.specs.Printed.{nextRoom, Printed, restText}
-use Rattle.printing.proofs.Takers.{rest-starts, rest-goes-on, rest-ends}
+use Rattle.text.specs.Writing.{Appended}
+use Rattle.printing.specs.Printed.{restText}
+use Rattle.printing.proofs.Takers.{rest-starts, room-next, rest-goes-on, rest-ends}
 use Rattle.printing.proofs.print_rest.Statement.{statement}
 use Rattle.printing.proofs.print_rest.Tie as tie
 
 abbrev Inv-loop : tie.InvT-loop
 Inv-loop buf₀ at grants n p₀ i₀ buf p i =
-    (0 < i) × (i ≤ n) × (length buf ≡ length buf₀) × Printed (nextRoom * (i - 1)) buf₀ at (restText (grantsOf i grants)) buf p
+    (0 < i) × (i ≤ n) × (length buf ≡ length buf₀) × Appended buf₀ at (restText (grantsOf i grants)) buf p
 
 abbrev μ-loop : tie.MeasureT-loop
 μ-loop buf₀ at grants n p₀ i₀ buf p i = n - i
@@ -29,7 +30,7 @@ shared-slice-read-taker : tie.Need-shared-slice-read-taker Inv-loop μ-loop
 shared-slice-read-taker c = search needs
 
 print-next-requires : tie.Need-print-next-requires Inv-loop μ-loop
-print-next-requires c κs = search needs
+print-next-requires c κs = search (room-next, needs)
 
 add-i : tie.Need-add-i Inv-loop μ-loop
 add-i c = search needs

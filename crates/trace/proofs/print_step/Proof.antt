@@ -1,6 +1,6 @@
 -- `trace::print_step`: the line of the outcome, whatever else is lent.
 use borrow.Author.Needs.{needs}
-use Rattle.trace.proofs.Turns.{step-printed}
+use Rattle.trace.proofs.Turns.{step-room, step-printed}
 use Rattle.trace.proofs.print_step.Statement.{statement}
 use Rattle.trace.proofs.print_step.Tie as tie
 
@@ -8,7 +8,7 @@ counts-of-requires : tie.Need-counts-of-requires
 counts-of-requires c κs = search needs
 
 print-line-requires : tie.Need-print-line-requires
-print-line-requires c κs = search needs
+print-line-requires c κs = search (step-room, needs)
 
 same-length : tie.Need-same-length
 same-length c = search needs

@@ -1,6 +1,6 @@
 -- `trace::print_walked`: `bad`, or the step's line.
 use borrow.Author.Needs.{needs}
-use Rattle.trace.proofs.Turns.{bad-room, step-room, bad-walked, step-walked}
+use Rattle.trace.proofs.Turns.{bad-room, bad-walked, said-room, said-walked}
 use Rattle.trace.proofs.print_walked.Statement.{statement}
 use Rattle.trace.proofs.print_walked.Tie as tie
 
@@ -17,13 +17,13 @@ returns : tie.Need-returns
 returns c = search (bad-walked, needs)
 
 print-step-requires : tie.Need-print-step-requires
-print-step-requires c κs = search (step-room, needs)
+print-step-requires c κs = search (said-room, needs)
 
 same-length-2 : tie.Need-same-length-2
 same-length-2 c = search needs
 
 returns-2 : tie.Need-returns-2
-returns-2 c = search (step-walked, needs)
+returns-2 c = search (said-walked, needs)
 
 pub print-walked-spec : {M : Type 1} → statement M
 print-walked-spec =

@@ -1,6 +1,6 @@
 -- `trace::run`: with room and without.
 use borrow.Author.Needs.{needs}
-use Rattle.trace.proofs.Firsts.{prints-nothing, prints-in, short-room, enough-room}
+use Rattle.trace.proofs.Firsts.{prints-nothing, printed-fits, prints-in, short-room, enough-room}
 use Rattle.trace.proofs.run.Statement.{statement}
 use Rattle.trace.proofs.run.Tie as tie
 
@@ -8,7 +8,7 @@ returns : tie.Need-returns
 returns c = search (prints-nothing, short-room, needs)
 
 run-in-requires : tie.Need-run-in-requires
-run-in-requires c κs = search needs
+run-in-requires c κs = search (printed-fits, enough-room, needs)
 
 same-length : tie.Need-same-length
 same-length c = search needs

@@ -1,17 +1,17 @@
 -- `trace::run_fresh`: the first line, and the others behind it.
 use borrow.Author.Needs.{needs}
-use Rattle.trace.proofs.Firsts.{fresh-room, fresh-printed}
+use Rattle.trace.proofs.Firsts.{fresh-line, fresh-room, fresh-printed}
 use Rattle.trace.proofs.run_fresh.Statement.{statement}
 use Rattle.trace.proofs.run_fresh.Tie as tie
 
 print-step-requires : tie.Need-print-step-requires
-print-step-requires c κs = search needs
+print-step-requires c κs = search (fresh-line, needs)
 
 run-lines-requires : tie.Need-run-lines-requires
 run-lines-requires c κs =
     let e = c .before .before .before .before .before .before .before .before .before .before .before in
     let p = e .before .before .before .before .before .before .before .before .before .before .before .before .before .pre in
-    (p .0, fresh-room _ (p .1) (e .print-step .kept .0) (p .2) (e .print-step .ensures), p .2)
+    (fresh-room (p .1) (p .0) (e .print-step .ensures), p .1)
 
 same-length : tie.Need-same-length
 same-length c = search needs
@@ -45,7 +45,7 @@ returns c =
     let l = c .before .before .before .before .before .before .before .before .before .before .before .before .before .before .before .before .before .before in
     let e = l .before .before .before .before .before .before .before .before .before .before .before .before in
     let p = e .before .before .before .before .before .before .before .before .before .before .before .before .before .pre in
-    fresh-printed _ (p .1) (p .2) (e .print-step .ensures) (l .run-lines .ensures)
+    fresh-printed (p .1) (p .0) (e .print-step .ensures) (l .run-lines .ensures)
 
 pub run-fresh-spec : {M : Type 1} → statement M
 run-fresh-spec =

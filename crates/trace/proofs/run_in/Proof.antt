@@ -1,6 +1,6 @@
 -- `trace::run_in`: `long`, or what the script prints.
 use borrow.Author.Needs.{needs}
-use Rattle.trace.proofs.Firsts.{long-in, short-in}
+use Rattle.trace.proofs.Firsts.{long-room, long-in, program-fits, short-in}
 use Rattle.trace.proofs.run_in.Statement.{statement}
 use Rattle.trace.proofs.run_in.Tie as tie
 
@@ -8,7 +8,7 @@ slice-aggregate-put : tie.Need-slice-aggregate-put
 slice-aggregate-put c = search needs
 
 put-requires : tie.Need-put-requires
-put-requires c κs = search needs
+put-requires c κs = search (long-room, needs)
 
 same-length : tie.Need-same-length
 same-length c = search needs
@@ -17,7 +17,7 @@ returns : tie.Need-returns
 returns c = search (long-in, needs)
 
 run-whole-requires : tie.Need-run-whole-requires
-run-whole-requires c κs = search needs
+run-whole-requires c κs = search (program-fits, needs)
 
 same-length-2 : tie.Need-same-length-2
 same-length-2 c = search needs

@@ -3,7 +3,7 @@ use mathlib.Core.Path.{_≡_}
 use borrow.Author.Needs.{needs}
 use Rattle.walking.specs.declared.Beginning.the-variants.{Fresh}
 use Rattle.trace.proofs.Firsts.{slots-there, tasks-there, sizes-there, rows-there, last-there, makers-there, clocks-there}
-use Rattle.trace.proofs.Firsts.{whole-within, whole-room, whole-fit, refused-room, bad-room, whole-fresh, whole-refused, whole-bad, whole-none}
+use Rattle.trace.proofs.Firsts.{whole-room, whole-fit, refused-room, bad-room, whole-fresh, whole-refused, whole-bad, whole-none}
 use Rattle.trace.proofs.run_whole.Statement.{statement}
 use Rattle.trace.proofs.run_whole.Tie as tie
 
@@ -42,7 +42,7 @@ run-fresh-requires c κs =
     let g = c .before .before .before .before .before .before .before .before .before .before .before in
     let b = g .begin .ensures in
     let q : g .begin .result .how ≡ Fresh = search (c .before .before .before .before .before .before .before .before .before .enum-told, needs) in
-    (whole-within b q, whole-room b q (g .before .before .before .before .before .before .before .before .before .before .pre), whole-fit b q (search needs))
+    (whole-room b (g .before .before .before .before .before .before .before .before .before .before .pre) q, whole-fit b q (search needs))
 
 enum-told-2 : tie.Need-enum-told-2
 enum-told-2 c = search needs
