@@ -28,24 +28,27 @@ use Rattle.trace.specs.Running.{room, firstOf, Prints}
 use Rattle.trace.proofs.Turns.{same-text}
 
 -- The line of the fresh state, and the lines behind it.
-module _ {s : BatchSemaphore} {w : Words} {gs old ys : List ℕ} (f : Fit s w gs) (room : length (firstOf (viewOf s w) ++ ys) ≤ length old) where
-  abbrev firstText : Words → List ℕ
-  firstText v = outcomeText (outcomeOf (record { reply = Done; count = 0; state = s }) v gs)
+abbrev firstText : BatchSemaphore → List ℕ → Words → List ℕ
+firstText s gs v = outcomeText (outcomeOf (record { reply = Done; count = 0; state = s }) v gs)
 
-  first-room : Room old 0 (firstText w ∷ ys ∷ [])
-  unfolding grantsOf table
-  first-room = pair (firstText w) ys (omega (arith, room))
-
-  pub fresh-line : (v : Words) → 0 + length (firstText v) ≤ length old
-  fresh-line v = rw (same-text (record { reply = Done; count = 0; state = s }) gs v w) (here first-room)
-
-  module _ {mid : List ℕ} {n : ℕ} (a : (v : Words) → Appended old 0 (firstText v) mid n) where
-    pub fresh-room : n + length ys ≤ length mid
-    fresh-room = here (onward first-room (a w))
-
-    pub fresh-printed : {new : List ℕ} {r : ℕ} → Appended mid n ys new r → Appended old 0 (firstOf (viewOf s w) ++ ys) new r
+module _ (script : List ℕ) (from : ℕ) (old : List ℕ) {s : BatchSemaphore} {w : Words} {gs : List ℕ} (f : Fit s w gs)
+    (room : length (firstOf (viewOf s w) ++ trace (viewOf s w) (lines (drop from script))) ≤ length old)
+  where
+    first-room : Room old 0 (firstText s gs w ∷ trace (viewOf s w) (lines (drop from script)) ∷ [])
     unfolding grantsOf table
-    fresh-printed b = appended-then (a w) (here first-room) b
+    first-room = pair (firstText s gs w) (trace (viewOf s w) (lines (drop from script))) (omega (arith, room))
+
+    pub fresh-line : (v : Words) → 0 + length (firstText s gs v) ≤ length old
+    fresh-line v = rw (same-text (record { reply = Done; count = 0; state = s }) gs v w) (here first-room)
+
+    module _ {mid : List ℕ} {n : ℕ} (a : (v : Words) → Appended old 0 (firstText s gs v) mid n) where
+      pub fresh-room : n + length (trace (viewOf s w) (lines (drop from script))) ≤ length mid
+      fresh-room = here (onward first-room (a w))
+
+      pub fresh-printed : {new : List ℕ} {r : ℕ} → Appended mid n (trace (viewOf s w) (lines (drop from script))) new r
+          → Appended old 0 (firstOf (viewOf s w) ++ trace (viewOf s w) (lines (drop from script))) new r
+      unfolding grantsOf table
+      fresh-printed b = appended-then (a w) (here first-room) b
 
 -- The whole script, by what its first line came to.
 module _ {script : List ℕ} {r : Begun} {w : Words} (b : Begins false script r w) where

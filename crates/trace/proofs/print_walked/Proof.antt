@@ -1,5 +1,6 @@
 -- `trace::print_walked`: `bad`, or the step's line.
 use borrow.Author.Needs.{needs}
+use denote.Ref.{now}
 use Rattle.trace.proofs.Turns.{bad-room, bad-walked, said-room, said-walked}
 use Rattle.trace.proofs.print_walked.Statement.{statement}
 use Rattle.trace.proofs.print_walked.Tie as tie
@@ -8,7 +9,9 @@ slice-aggregate-put : tie.Need-slice-aggregate-put
 slice-aggregate-put c = search needs
 
 put-requires : tie.Need-put-requires
-put-requires c κs = search (bad-room, needs)
+put-requires c κs =
+    let s = c .before .before .before .before .before in
+    bad-room (s .args .r) (s .args .n) (now (s .args .grants)) (now (s .args .out)) (search needs) (s .pre .2)
 
 same-length : tie.Need-same-length
 same-length c = search needs

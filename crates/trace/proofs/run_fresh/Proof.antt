@@ -1,17 +1,21 @@
 -- `trace::run_fresh`: the first line, and the others behind it.
+use native.Mathlib.Omega.{arith}
 use borrow.Author.Needs.{needs}
+use denote.Ref.{now}
 use Rattle.trace.proofs.Firsts.{fresh-line, fresh-room, fresh-printed}
 use Rattle.trace.proofs.run_fresh.Statement.{statement}
 use Rattle.trace.proofs.run_fresh.Tie as tie
 
 print-step-requires : tie.Need-print-step-requires
-print-step-requires c κs = search (fresh-line, needs)
+print-step-requires c κs =
+    let s = c .before .before .before .before .before .before .before .before .before .before .before .before in
+    (omega arith, s .pre .1 .grants, fresh-line (now (s .args .script)) (s .args .from) (now (s .args .out)) (s .pre .1) (s .pre .0))
 
 run-lines-requires : tie.Need-run-lines-requires
 run-lines-requires c κs =
     let e = c .before .before .before .before .before .before .before .before .before .before .before in
-    let p = e .before .before .before .before .before .before .before .before .before .before .before .before .before .pre in
-    (fresh-room (p .1) (p .0) (e .print-step .ensures), p .1)
+    let s = e .before .before .before .before .before .before .before .before .before .before .before .before .before in
+    (fresh-room (now (s .args .script)) (s .args .from) (now (s .args .out)) (s .pre .1) (s .pre .0) (e .print-step .ensures), s .pre .1)
 
 same-length : tie.Need-same-length
 same-length c = search needs
@@ -44,8 +48,8 @@ returns : tie.Need-returns
 returns c =
     let l = c .before .before .before .before .before .before .before .before .before .before .before .before .before .before .before .before .before .before in
     let e = l .before .before .before .before .before .before .before .before .before .before .before .before in
-    let p = e .before .before .before .before .before .before .before .before .before .before .before .before .before .pre in
-    fresh-printed (p .1) (p .0) (e .print-step .ensures) (l .run-lines .ensures)
+    let s = e .before .before .before .before .before .before .before .before .before .before .before .before .before in
+    fresh-printed (now (s .args .script)) (s .args .from) (now (s .args .out)) (s .pre .1) (s .pre .0) (e .print-step .ensures) (l .run-lines .ensures)
 
 pub run-fresh-spec : {M : Type 1} → statement M
 run-fresh-spec =
