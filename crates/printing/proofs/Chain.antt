@@ -56,7 +56,7 @@ module _ (old : List ℕ) (at n : ℕ) (room : at + length (digits n ++ space �
     field-written new r b = appended-then a room-number b
 
 -- available, stock, closed and queue length
-counts-pieces : (c : Counts)
+pub counts-pieces : (c : Counts)
     → together ((digits (c .available) ++ space ∷ []) ∷ (digits (c .stock) ++ space ∷ []) ∷ (closedText (c .closed) ++ space ∷ []) ∷ (digits (c .queued) ++ space ∷ []) ∷ [])
     ≡ countsText c
 counts-pieces c = simp append-assoc

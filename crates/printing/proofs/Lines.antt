@@ -23,7 +23,7 @@ use Rattle.printing.specs.Printed.{countsText, lineText, ShownBy}
 use Rattle.printing.proofs.Chain.{together, Room, here, onward, joined}
 
 -- piece by piece
-line-pieces : (a : Answer) (c : Counts) (gs : List Grant) → together (answerText a ∷ (space ∷ []) ∷ countsText c ∷ grantsText gs ∷ (lineFeed ∷ []) ∷ []) ≡ lineText a c gs
+pub line-pieces : (a : Answer) (c : Counts) (gs : List Grant) → together (answerText a ∷ (space ∷ []) ∷ countsText c ∷ grantsText gs ∷ (lineFeed ∷ []) ∷ []) ≡ lineText a c gs
 unfolding joinedBy
 line-pieces a c gs = simp append-assoc
 
