@@ -1,0 +1,14 @@
+pub mod Answering
+pub mod Bodies
+pub mod Both
+pub mod Bundling
+pub mod Entries
+pub mod FourBytes
+pub mod Grounds
+pub mod Judging
+pub mod Naming
+pub mod Once
+pub mod Putting
+pub mod Reader
+pub mod Rows
+pub mod Said

@@ -1,0 +1,4 @@
+pub mod Contents
+pub mod Reads
+pub mod Writing
+pub mod Writes
