@@ -13,6 +13,9 @@ abbrev μ-loop : tie.MeasureT-loop
 tell-requires : tie.Need-tell-requires Inv-loop μ-loop
 tell-requires c κs = tt
 
+tell-requires-2 : tie.Need-tell-requires-2 Inv-loop μ-loop
+tell-requires-2 c κs = tt
+
 count-requires : tie.Need-count-requires Inv-loop μ-loop
 count-requires c κs = tt
 
@@ -47,6 +50,7 @@ main-spec =
     Inv-loop
     μ-loop
     tell-requires
+    tell-requires-2
     count-requires
     loop-holds
     add-loop
