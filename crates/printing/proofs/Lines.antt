@@ -3,7 +3,7 @@ use Prim.Native.Nat.{ℕ, _+_, _≤_, _<_}
 use native.Mathlib.Omega.{arith}
 use mathlib.Core.Path.{_≡_, refl, _∙_}
 use mathlib.Core.Bool.{Bool, true, false, cond}
-use mathlib.Core.List.{List, [], _∷_, _++_, append-assoc}
+use mathlib.Core.List.{List, [], _∷_, append-assoc}
 use mathlib.Core.Option.{none, some}
 use lib.ListN.{length, length-take}
 use Rattle.rules.specs.declared.Grant.{Grant}
