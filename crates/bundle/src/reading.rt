@@ -162,7 +162,8 @@ pub fn read(bundle: &[u8]) -> Answered
     read_kept(bundle, 0)
 }
 
-// The same of a bundle of which only the first bytes are kept, and so many more stand behind them: the first 65,536 are, or it is 20.
+// The same of a bundle of which only the first bytes are kept, and so many more stand behind them. Where there are more, and fewer than
+// 65,536 are kept, it is 20.
 pub fn read_counted(kept: &[u8], more: u64) -> Answered
     ensures { λ r. ⌜ ReadsCounted (now (kept .entry)) more r ⌝ }
 {
