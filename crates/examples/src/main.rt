@@ -11,12 +11,16 @@ mod trials;
 const BUNDLE: usize = bundle::LONGEST + 1;
 
 // The most that a script has here, and what it can print.
-fn script_room() -> [u8; 4096] {
-    [0u8; 4096]
+const SCRIPT: usize = 4096;
+
+const TEXT: usize = trace::BYTE_ROOM * SCRIPT;
+
+fn script_room() -> [u8; SCRIPT] {
+    [0u8; SCRIPT]
 }
 
-fn text_room() -> [u8; 81920] {
-    [0u8; 81920]
+fn text_room() -> [u8; TEXT] {
+    [0u8; TEXT]
 }
 
 // The same of a bundle.

@@ -93,8 +93,8 @@ fn too_long() -> [u8; 65537] {
     [b'\n'; 65537]
 }
 
-fn output() -> [u8; 1310740] {
-    [0u8; 1310740]
+fn output() -> [u8; trace::OUTPUT] {
+    [0u8; trace::OUTPUT]
 }
 
 // How many bytes the longest script prints, with a first line in front.

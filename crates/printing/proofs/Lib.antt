@@ -1,3 +1,4 @@
 pub mod Chain
 pub mod Takers
 pub mod Lines
+pub mod Rooms

@@ -161,3 +161,41 @@ pub fn print_line(buf: &mut [u8], at: usize, a: Reply, c: Counts, grants: &[u32]
     let s = print_grants(buf, r, grants, n);
     text::put(buf, s, b"\n")
 }
+
+// Room for the digits of a byte, of any number, and for an answer.
+fn small_room(n: u8) -> usize
+    ensures { λ r. ⌜ (length (digits n) ≤ r) × (r ≤ 3) ⌝ }
+{
+    3
+}
+
+fn number_room(n: u32) -> usize
+    ensures { λ r. ⌜ (length (digits n) ≤ r) × (r ≤ 10) ⌝ }
+{
+    10
+}
+
+fn answer_room(a: Reply) -> usize
+    ensures { λ r. ⌜ (length (answerText (answerOf a)) ≤ r) × (r ≤ 7) ⌝ }
+{
+    match a {
+        Reply::Done => 4,
+        Reply::Granted => 7,
+        Reply::Pending => 7,
+        Reply::Closed => 6,
+        Reply::NoPermits => 4,
+        Reply::Made(x) => 1 + small_room(x.0),
+        Reply::Refused(n) => 1 + small_room(replies::number(n)),
+    }
+}
+
+// Room for a line with n grants, whoever takes: three bytes and a comma for each. For a caller that does not know how long its line is.
+pub fn line_room(a: Reply, c: Counts, n: u8) -> usize
+    ensures { λ r. ⌜ ((w : List ℕ) → length (lineText (answerOf a) c (grantsOf n w)) ≤ r) ⌝ }
+{
+    let x = answer_room(a);
+    let y = number_room(c.available);
+    let z = number_room(c.stock);
+    let q = number_room(c.queued);
+    x + y + z + q + 4 * n as usize + 8
+}

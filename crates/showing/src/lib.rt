@@ -1,20 +1,12 @@
 // What a step came to as text, in the oracle's form (oracle/README.md): the script program's line, and behind it the whole state as rows of
 // numbers. Nothing here is part of the promises: it is one side of the comparison with the Rust. What does not fit a buffer is not written.
 ghost use mathlib.Core.Path.{_≡_};
-ghost use mathlib.Core.List.{List};
-ghost use Prim.Native.Nat.{ℕ, _-_, _≤_};
-ghost use lib.ListN.{length};
+ghost use Prim.Native.Nat.{_-_, _≤_};
 ghost use Rattle.rules.specs.Sizes.{slotCount};
-ghost use Rattle.rules.specs.Text.{digits};
-ghost use Rattle.rules.specs.Script.{answerText};
-ghost use Rattle.replies.specs.Answers.{answerOf};
-ghost use Rattle.words.specs.View.{grantsOf};
-ghost use Rattle.printing.specs.Printed.{lineText};
 use arrays::Arrays;
 use arrays::Came;
 use batches::Batches;
 use head::Head;
-use printing::Counts;
 use printing::bit;
 use queue::Waiters;
 use replies::Reply;
@@ -193,51 +185,13 @@ fn put_state(buf: &mut [u8], at: usize, s: BatchSemaphore, w: Arrays) -> usize {
     put_requests(buf, p9, n as usize, w)
 }
 
-// Room for the digits of a byte, of any number, and for an answer.
-fn small_room(n: u8) -> usize
-    ensures { λ r. ⌜ (length (digits n) ≤ r) × (r ≤ 3) ⌝ }
-{
-    3
-}
-
-fn number_room(n: u32) -> usize
-    ensures { λ r. ⌜ (length (digits n) ≤ r) × (r ≤ 10) ⌝ }
-{
-    10
-}
-
-fn answer_room(a: Reply) -> usize
-    ensures { λ r. ⌜ (length (answerText (answerOf a)) ≤ r) × (r ≤ 7) ⌝ }
-{
-    match a {
-        Reply::Done => 4,
-        Reply::Granted => 7,
-        Reply::Pending => 7,
-        Reply::Closed => 6,
-        Reply::NoPermits => 4,
-        Reply::Made(x) => 1 + small_room(x.0),
-        Reply::Refused(n) => 1 + small_room(replies::number(n)),
-    }
-}
-
-// Room for a line with n grants, whoever takes: three bytes and a comma for each.
-fn line_room(a: Reply, c: Counts, n: u8) -> usize
-    ensures { λ r. ⌜ ((w : List ℕ) → length (lineText (answerOf a) c (grantsOf n w)) ≤ r) ⌝ }
-{
-    let x = answer_room(a);
-    let y = number_room(c.available);
-    let z = number_room(c.stock);
-    let q = number_room(c.queued);
-    x + y + z + q + 4 * n as usize + 8
-}
-
 // The script program's line.
 fn put_line(buf: &mut [u8], at: usize, r: Stepped, grants: &[u32; 96]) -> usize {
     let n = grants_of(r.count);
     let reply = r.reply;
     let s = r.state;
     let c = printing::counts_of(s.head);
-    if left(buf.len(), at) < line_room(reply, c, n) {
+    if left(buf.len(), at) < printing::line_room(reply, c, n) {
         return at;
     }
     printing::print_line(buf, at, reply, c, grants, n as usize)

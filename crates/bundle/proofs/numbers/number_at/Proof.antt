@@ -62,7 +62,8 @@ cast-result c = search needs
 
 returns : tie.Need-returns
 returns c =
-    let bytes : Bytes (c .before .before .before .before .before .before .before .before .before .args .s .now) = λ i. omega (arith, c .before .shared-slice-known5 .given i) in
+    let start = c .before .before .before .before .before .before .before .before .before in
+    let bytes : Bytes (start .args .s .now) = λ i. omega (arith, c .before .shared-slice-known5 .given i) in
     search (number-here, needs)
 
 pub number-at-spec : {M : Type 1} → statement M

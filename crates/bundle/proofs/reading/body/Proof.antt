@@ -40,7 +40,8 @@ cast-end c = search needs
 
 add-end : tie.Need-add-end
 add-end c =
-    let size : Fits w32 (getD (c .before .before .before .before .before .before .before .before .args .contents .lengths) (c .before .before .before .before .before .before .before .before .args .i) 0) = search needs in
+    let start = c .before .before .before .before .before .before .before .before in
+    let size : Fits w32 (getD (start .args .contents .lengths) (start .args .i) 0) = search needs in
     omega arith
 
 slice-aggregate-result-3 : tie.Need-slice-aggregate-result-3

@@ -63,7 +63,11 @@ loop-again c = (
   search needs,
   search needs,
   search needs,
-  body-there (c .before .before .before .before .before .before .args .s .now) (c .before .before .before .before .before .before .args .n) (c .before .before .before .before .loop .i) (c .before .before .before .before .loop .at) (c .before .before .before .before .loop .end) _ _ (c .before .before .before .before .loop .inv .3) (c .before .before .number-at .result) (c .number-at2 .result) (c .before .before .before .loop-test .taken) (c .before .before .number-at .ensures) (c .before .if1 .left) (c .number-at2 .ensures),
+  let offset = c .before .before in
+      let turn = offset .before .before in
+      let start = turn .before .before in
+      body-there (start .args .s .now) (start .args .n) (turn .loop .i) (turn .loop .at) (turn .loop .end) _ _ (turn .loop .inv .3) (offset .number-at .result) (c .number-at2 .result)
+      (offset .before .loop-test .taken) (offset .number-at .ensures) (c .before .if1 .left) (c .number-at2 .ensures),
 )
 
 returns-2 : tie.Need-returns-2 Inv-loop μ-loop

@@ -42,7 +42,13 @@ cast-t18 c = search needs
 
 returns-3 : tie.Need-returns-3
 returns-3 c =
-    accepted (c .before .before .before .before .before .before .before .before .before .before .before .before .args .s .now) (c .before .before .before .before .before .before .before .before .before .before .before .before .args .n) (c .before .before .before .before .before .before .before .before .before .before .before .before .args .more) (c .before .before .before .before .before .before .before .before .before .before .before .before .pre) _ (c .before .before .before .before .before .before .well-named .result) (c .before .before .before .before .before .before .before .before .before .read-names .ensures) (c .before .before .before .before .before .before .well-named .ensures) (c .before .before .before .before .well-placed .result) (c .before .before .before .before .well-placed .ensures) _ (c .before .before .before .before .before .if1 .left) (c .before .before .before .if2 .left) (c .before .read-lengths .ensures)
+    let placed = c .before .before .before .before in
+    let named = placed .before .before in
+    let read = named .before .before .before in
+    let start = read .before .before .before in
+    accepted (start .args .s .now) (start .args .n) (start .args .more) (start .pre) _ (named .well-named .result) (read .read-names .ensures)
+    (named .well-named .ensures) (placed .well-placed .result) (placed .well-placed .ensures) _ (placed .before .if1 .left) (c .before .before .before .if2 .left)
+    (c .before .read-lengths .ensures)
 
 pub judged-spec : {M : Type 1} → statement M
 judged-spec =

@@ -33,7 +33,11 @@ cast-judged c = search needs
 
 judged-requires : tie.Need-judged-requires
 judged-requires c κs =
-    table-whole (c .before .before .before .before .before .before .args .s .now) (c .before .before .before .number-at .result) (c .before .before .before .before .before .before .args .more) (c .before .before .is-cut .result) (c .before .before .before .number-at .ensures) (c .before .before .is-cut .ensures) (c .before .if2 .left) (c .if3 .left) (c .before .before .before .before .before .before .pre)
+    let cut = c .before .before in
+    let counted = cut .before in
+    let start = counted .before .before .before in
+    table-whole (start .args .s .now) (counted .number-at .result) (start .args .more) (cut .is-cut .result) (counted .number-at .ensures) (cut .is-cut .ensures)
+    (c .before .if2 .left) (c .if3 .left) (start .pre)
 
 returns-4 : tie.Need-returns-4
 returns-4 c = search needs

@@ -1,8 +1,8 @@
--- `showing::answer_room`: a word, or a letter and a byte's number.
+-- `printing::answer_room`: a word, or a letter and a byte's number.
 use borrow.Author.Needs.{needs}
-use Rattle.showing.proofs.Room.{word-fits, made-fits, refused-fits}
-use Rattle.showing.proofs.answer_room.Statement.{statement}
-use Rattle.showing.proofs.answer_room.Tie as tie
+use Rattle.printing.proofs.Rooms.{word-fits, made-fits, refused-fits}
+use Rattle.printing.proofs.answer_room.Statement.{statement}
+use Rattle.printing.proofs.answer_room.Tie as tie
 
 enum-told : tie.Need-enum-told
 enum-told c = search needs

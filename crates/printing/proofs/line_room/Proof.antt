@@ -1,8 +1,8 @@
--- `showing::line_room`: the answer, three numbers, and the takers.
+-- `printing::line_room`: the answer, three numbers, and the takers.
 use borrow.Author.Needs.{needs}
-use Rattle.showing.proofs.Room.{line-fits}
-use Rattle.showing.proofs.line_room.Statement.{statement}
-use Rattle.showing.proofs.line_room.Tie as tie
+use Rattle.printing.proofs.Rooms.{line-fits}
+use Rattle.printing.proofs.line_room.Statement.{statement}
+use Rattle.printing.proofs.line_room.Tie as tie
 
 answer-room-requires : tie.Need-answer-room-requires
 answer-room-requires c κs = search needs
