@@ -13,13 +13,13 @@ use Rattle.bundle_rules.specs.Bundled.{longest}
 use Rattle.bundle_rules.specs.Reading.{entriesIn, groundOf, orRefused, readAs}
 use Rattle.bundle_rules.proofs.Grounds.{none-clear, first-decides}
 use Rattle.bundle_rules.proofs.RoundTrip.{Accepted, accepted, bundled-read}
-use Rattle.bundle.specs.declared.Answered.{Answered}
+use Rattle.bundle.specs.declared.BundleRead.{BundleRead}
 use Rattle.bundle.specs.declared.Verdict.the-variants.{Refused}
 use Rattle.bundle.specs.Reads.{Tells, Reads, ReadsCounted, Judged, Judges}
 
 -- All bytes are there.
 
-tells : (s : List ℕ) (r : Answered) (g : Option Refusal) → groundOf s (length s) ≡ g → Judged r s g → Tells r s (orRefused g (entriesIn s))
+tells : (s : List ℕ) (r : BundleRead) (g : Option Refusal) → groundOf s (length s) ≡ g → Judged r s g → Tells r s (orRefused g (entriesIn s))
 unfolding readAs
 tells s r (some g) e j = j
 tells s r none e j =
@@ -33,7 +33,7 @@ tells s r none e j =
       },
     )
 
-pub reads-all : (s : List ℕ) (r : Answered) → Bytes s → Judges s 0 r → Reads s r
+pub reads-all : (s : List ℕ) (r : BundleRead) → Bytes s → Judges s 0 r → Reads s r
 unfolding readAs
 reads-all s r b j =
     record {
@@ -43,7 +43,7 @@ reads-all s r b j =
 
 -- Some are only counted: the whole is too long, so that a ground holds.
 
-refused-all : (s t : List ℕ) (r : Answered) (g : Option Refusal) → groundOf t (length t) ≡ g → (g ≡ none → ⊥) → Judged r s g → Reads t r
+refused-all : (s t : List ℕ) (r : BundleRead) (g : Option Refusal) → groundOf t (length t) ≡ g → (g ≡ none → ⊥) → Judged r s g → Reads t r
 unfolding readAs
 refused-all s t r none e f j = absurd (f refl)
 refused-all s t r (some g) e f j =
@@ -52,7 +52,7 @@ refused-all s t r (some g) e f j =
       bundle = λ es h. let z : _≡_ {A = ℕ} 0 1 = cc (rw e at h) in absurd (omega arith);
     }
 
-module _ (kept : List ℕ) (more : ℕ) (r : Answered) where
+module _ (kept : List ℕ) (more : ℕ) (r : BundleRead) where
   pub counted-none : more ≡ 0 → Reads kept r → ReadsCounted kept more r
   counted-none z p =
       record {

@@ -11,7 +11,7 @@ use Rattle.bundle_rules.specs.Bundled.{contentsLength, Entry, bundled, Fits}
 use Rattle.bundle_rules.specs.Reading.{Answer, refused, holds, readAs}
 use Rattle.bundle_rules.proofs.RoundTrip.{bundled-length, fits-read, read-bundled}
 use Rattle.bundle.specs.declared.Contents.{Contents}
-use Rattle.bundle.specs.declared.Answered.{Answered}
+use Rattle.bundle.specs.declared.BundleRead.{BundleRead}
 use Rattle.bundle.specs.declared.Written.{Written}
 use Rattle.bundle.specs.declared.Written.the-variants.{Wrote, Not}
 use Rattle.bundle.specs.Contents.{Holds}
@@ -87,12 +87,12 @@ pub written-reads-back : (c : Contents) (bs old new : List ℕ) (n : ℕ) → Wr
 written-reads-back c bs old new n w = by-answer c bs old new n (w .arrays) (writeAs c bs (length old)) refl (w .leaves)
 
 -- so does whatever meets the reader's contract
-pub written-then-read : (c : Contents) (bs old new : List ℕ) (n : ℕ) (r : Answered) → Writes c bs old new (Wrote n) → Reads (take n new) r → Tells r (take n new) (holds (scriptsOf c bs))
+pub written-then-read : (c : Contents) (bs old new : List ℕ) (n : ℕ) (r : BundleRead) → Writes c bs old new (Wrote n) → Reads (take n new) r → Tells r (take n new) (holds (scriptsOf c bs))
 written-then-read c bs old new n r w d =
     subst (λ (o : Answer). Tells r (take n new) o) (written-reads-back c bs old new n w .reads) (d .tells)
 
 -- READ, THEN WRITTEN AGAIN: the same bytes, into every buffer that is large enough, and behind them it is as it was.
-pub read-written-again : (s : List ℕ) (r : Answered) (es : List Entry) (old new : List ℕ) (w : Written) → Reads s r → readAs s ≡ holds es
+pub read-written-again : (s : List ℕ) (r : BundleRead) (es : List Entry) (old new : List ℕ) (w : Written) → Reads s r → readAs s ≡ holds es
     → Writes (r .contents) (drop (contentsLength (length es)) s) old new w → length s ≤ length old
     → (w ≡ Wrote (length s)) × (new ≡ s ++ drop (length s) old)
 read-written-again s r es old new w d e k fit =

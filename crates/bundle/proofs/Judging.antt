@@ -12,7 +12,7 @@ use Rattle.bundle_rules.specs.declared.Refusal.the-variants.{CutShort, TooMany,
 use Rattle.bundle_rules.specs.Numbers.{NumberAt}
 use Rattle.bundle_rules.specs.Bundled.{mostScripts, longest, contentsLength, wellNamed}
 use Rattle.bundle_rules.specs.Reading.{countOf, rowsOf, contents, namesOf, sizesOf, inOrder, groundOf}
-use Rattle.bundle.specs.declared.Answered.{Answered}
+use Rattle.bundle.specs.declared.BundleRead.{BundleRead}
 use Rattle.bundle.specs.declared.Verdict.the-variants.{Good, Refused}
 use Rattle.bundle.specs.Contents.{stretches}
 use Rattle.bundle.specs.Reads.{Judges, Taken, Enough, Whole}
@@ -36,18 +36,18 @@ enough-long s more h = record { long = λ k. h }
 
 -- Before the table is known to be whole.
 
-pub no-count : (s : List ℕ) (more : ℕ) (r : Answered) → Enough s more → length s < 4 → r .verdict ≡ Refused CutShort → Judges s more r
+pub no-count : (s : List ℕ) (more : ℕ) (r : BundleRead) → Enough s more → length s < 4 → r .verdict ≡ Refused CutShort → Judges s more r
 unfolding groundOf
 no-count s more r l h e =
     let z : more ≡ 0 = elim (decLt 0 more) [ yes k ↦ absurd (omega (arith, l .long k)) | no k ↦ omega arith ] in
     record { says = rw (lt-ltb (length s + more) (contentsLength (countOf s)) (omega arith)) e }
 
 module _ (s : List ℕ) (n more : ℕ) (cut : Bool) (q : NumberAt s 0 n) (k : cut ≡ ltb (length s + more) (contentsLength n)) where
-  pub table-cut : (r : Answered) → cut ≡ true → r .verdict ≡ Refused CutShort → Judges s more r
+  pub table-cut : (r : BundleRead) → cut ≡ true → r .verdict ≡ Refused CutShort → Judges s more r
   unfolding groundOf
   table-cut r t e = record { says = rw (← q .value, sym k ∙ t) e }
 
-  pub too-many : (r : Answered) → cut ≡ false → mostScripts < n → r .verdict ≡ Refused TooMany → Judges s more r
+  pub too-many : (r : BundleRead) → cut ≡ false → mostScripts < n → r .verdict ≡ Refused TooMany → Judges s more r
   unfolding groundOf
   too-many r t h e = record { says = rw (← q .value, sym k ∙ t, lt-ltb mostScripts n h) e }
 
@@ -97,12 +97,12 @@ module _ (s : List ℕ) (n more : ℕ) (w : Whole s n more) where
       rw (k, le-leb (length s) longest l) (e ∙ and-yes (inOrder (contentsLength n) (rowsOf n (drop 4 s)) (length s)))
 
   module _ (ms : List ℕ) (named : Bool) (e : stretches 16 n ms ≡ namesOf (rowsOf n (drop 4 s))) (k : named ≡ wellNamed (stretches 16 n ms)) where
-    pub name-refused : (r : Answered) → not named ≡ true → r .verdict ≡ Refused BadName → Judges s more r
+    pub name-refused : (r : BundleRead) → not named ≡ true → r .verdict ≡ Refused BadName → Judges s more r
     unfolding groundOf
     name-refused r t v = record { says = rw (← w .count, not-cut, not-many, ← e, ← k, t) v }
 
     module _ (placed : Bool) (p : placed ≡ wellPlaced s n more) where
-      pub bodies-refused : (r : Answered) → not named ≡ false → not placed ≡ true → r .verdict ≡ Refused BadBodies → Judges s more r
+      pub bodies-refused : (r : BundleRead) → not named ≡ false → not placed ≡ true → r .verdict ≡ Refused BadBodies → Judges s more r
       unfolding groundOf
       bodies-refused r t u v = record { says = rw (← w .count, not-cut, not-many, ← e, ← k, t, ← p, u) v }
 

@@ -10,14 +10,14 @@ use Rattle.bundle_rules.specs.Bundled.{contentsLength, Entry, bundled, Fits}
 use Rattle.bundle_rules.specs.Reading.{FirstGround, Answer, refused, holds, readAs}
 use Rattle.bundle_rules.proofs.Grounds.{refused-exactly}
 use Rattle.bundle_rules.proofs.RoundTrip.{fits-read, read-bundled}
-use Rattle.bundle.specs.declared.Answered.{Answered}
+use Rattle.bundle.specs.declared.BundleRead.{BundleRead}
 use Rattle.bundle.specs.declared.Verdict.the-variants.{Good, Refused}
 use Rattle.bundle.specs.Contents.{Holds, bodyAt}
 use Rattle.bundle.specs.Reads.{Tells, Reads}
 use Rattle.bundle.proofs.Bodies.{body-of}
 use Rattle.bundle.proofs.Bundling.{scriptsOf, holds-once}
 
-module _ (s : List ℕ) (r : Answered) where
+module _ (s : List ℕ) (r : BundleRead) where
   abbrev HoldsBehind : List Entry → Type 0
   HoldsBehind es = Holds (r .contents) (drop (contentsLength (length es)) s) es
 
@@ -37,7 +37,7 @@ module _ (s : List ℕ) (r : Answered) where
   told-holds (refused g) es t e h = let z : _≡_ {A = ℕ} 0 1 = cc in absurd (omega arith)
   told-holds (holds fs) es t e h = ap holds (same-scripts fs es (t .1) h)
 
-module _ (s : List ℕ) (r : Answered) (d : Reads s r) where
+module _ (s : List ℕ) (r : BundleRead) (d : Reads s r) where
   tells-it : (a : Answer) → readAs s ≡ a → Tells r s a
   tells-it a e = subst (λ (o : Answer). Tells r s o) e (d .tells)
 

@@ -10,20 +10,20 @@ use Rattle.bundle_rules.specs.Bundled.{mostScripts, longest, contentsLength, En
 use Rattle.bundle_rules.specs.Reading.{countOf, contents, namesOf, sizesOf, groundOf, Answer, refused, holds, readAs}
 use Rattle.bundle.specs.declared.Contents.{Contents}
 use Rattle.bundle.specs.declared.Verdict.the-variants.{Good, Refused}
-use Rattle.bundle.specs.declared.Answered.{Answered}
+use Rattle.bundle.specs.declared.BundleRead.{BundleRead}
 use Rattle.bundle.specs.Contents.{namesIn, sizesIn, Holds}
 
-abbrev pub Tells : Answered → List ℕ → Answer → Type 0
+abbrev pub Tells : BundleRead → List ℕ → Answer → Type 0
 Tells r s (refused g) = r .verdict ≡ Refused g
 Tells r s (holds es) = (r .verdict ≡ Good) × Holds (r .contents) (drop (contentsLength (length es)) s) es
 
 -- THE READER'S CONTRACT: it tells what the bytes are, and bytes that hold scripts are those scripts bundled
-pub record Reads (s : List ℕ) (r : Answered) : Type 0 where
+pub record Reads (s : List ℕ) (r : BundleRead) : Type 0 where
   pub tells : Tells r s (readAs s)
   pub bundle : (es : List Entry) → readAs s ≡ holds es → s ≡ bundled es
 
 -- of a bundle of which the first bytes are kept and the others counted: they are enough to tell, or too few are kept
-pub record ReadsCounted (kept : List ℕ) (more : ℕ) (r : Answered) : Type 0 where
+pub record ReadsCounted (kept : List ℕ) (more : ℕ) (r : BundleRead) : Type 0 where
   pub whole : more ≡ 0 → Reads kept r
   pub first : 0 < more → longest ≤ length kept → (rest : List ℕ) → length rest ≡ more → Reads (kept ++ rest) r
   pub few : 0 < more → length kept < longest → r .verdict ≡ Refused CutShort
@@ -36,11 +36,11 @@ pub record Taken (c : Contents) (s : List ℕ) : Type 0 where
   pub names : namesIn c ≡ namesOf (contents s)
   pub sizes : sizesIn c ≡ sizesOf (contents s)
 
-abbrev pub Judged : Answered → List ℕ → Option Refusal → Type 0
+abbrev pub Judged : BundleRead → List ℕ → Option Refusal → Type 0
 Judged r s (some g) = r .verdict ≡ Refused g
 Judged r s none = (r .verdict ≡ Good) × Taken (r .contents) s
 
-pub record Judges (s : List ℕ) (more : ℕ) (r : Answered) : Type 0 where
+pub record Judges (s : List ℕ) (more : ℕ) (r : BundleRead) : Type 0 where
   pub says : Judged r s (groundOf s (length s + more))
 
 -- where some are not kept, the whole is too long

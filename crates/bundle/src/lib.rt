@@ -39,7 +39,7 @@ pub struct Contents {
 }
 
 // What the reader answers; where it refuses, the contents mean nothing.
-pub struct Answered {
+pub struct BundleRead {
     pub verdict: Verdict,
     pub contents: Contents,
 }

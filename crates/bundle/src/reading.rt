@@ -9,7 +9,7 @@ ghost use Rattle.bundle_rules.specs.Bundled.{nameLength, mostScripts, longest, 
 ghost use Rattle.bundle_rules.specs.Reading.{rowsOf, namesOf, sizesOf, inOrder};
 ghost use Rattle.bundle.specs.Contents.{stretches, sumOf, Sums, bodyAt};
 ghost use Rattle.bundle.specs.Reads.{Enough, Whole, Judges, Reads, ReadsCounted};
-use super::Answered;
+use super::BundleRead;
 use super::Contents;
 use super::LONGEST;
 use super::MOST;
@@ -97,12 +97,12 @@ fn well_placed(s: &[u8], n: usize, more: u64) -> bool
 }
 
 // A refusal; the contents mean nothing.
-fn refused(g: Refusal) -> Answered
+fn refused(g: Refusal) -> BundleRead
     ensures { λ r. ⌜ r .verdict ≡ Verdict.Refused g ⌝ }
 {
     let names = [0u8; 4096];
     let lengths = [0u32; 256];
-    Answered {
+    BundleRead {
         verdict: Verdict::Refused(g),
         contents: Contents {
             count: 0,
@@ -113,7 +113,7 @@ fn refused(g: Refusal) -> Answered
 }
 
 // What is said of a bundle with a whole table of n rows.
-fn judged(s: &[u8], n: usize, more: u64) -> Answered
+fn judged(s: &[u8], n: usize, more: u64) -> BundleRead
     requires { ⌜ Whole (now s) n more ⌝ }
     ensures { λ r. ⌜ Judges (now (s .entry)) more r ⌝ }
 {
@@ -127,7 +127,7 @@ fn judged(s: &[u8], n: usize, more: u64) -> Answered
     }
     let mut lengths = [0u32; 256];
     read_lengths(s, n, &mut lengths);
-    Answered {
+    BundleRead {
         verdict: Verdict::Good,
         contents: Contents {
             count: n as u32,
@@ -138,7 +138,7 @@ fn judged(s: &[u8], n: usize, more: u64) -> Answered
 }
 
 // The first ground of a bundle that begins with these bytes and has so many more, or its contents.
-fn read_kept(s: &[u8], more: u64) -> Answered
+fn read_kept(s: &[u8], more: u64) -> BundleRead
     requires { ⌜ Enough (now s) more ⌝ }
     ensures { λ r. ⌜ Judges (now (s .entry)) more r ⌝ }
 {
@@ -156,7 +156,7 @@ fn read_kept(s: &[u8], more: u64) -> Answered
 }
 
 // The scripts of a bundle, or why it is refused: 20, 21, 22, 23 in that order.
-pub fn read(bundle: &[u8]) -> Answered
+pub fn read(bundle: &[u8]) -> BundleRead
     ensures { λ r. ⌜ Reads (now (bundle .entry)) r ⌝ }
 {
     read_kept(bundle, 0)
@@ -164,7 +164,7 @@ pub fn read(bundle: &[u8]) -> Answered
 
 // The same of a bundle of which only the first bytes are kept, and so many more stand behind them. Where there are more, and fewer than
 // 65,536 are kept, it is 20.
-pub fn read_counted(kept: &[u8], more: u64) -> Answered
+pub fn read_counted(kept: &[u8], more: u64) -> BundleRead
     ensures { λ r. ⌜ ReadsCounted (now (kept .entry)) more r ⌝ }
 {
     if more == 0 {

@@ -16,7 +16,7 @@ use Rattle.bundle_rules.specs.Bundled.{nameLength, mostScripts, longest, conten
 use Rattle.bundle_rules.specs.Reading.{Answer, refused, holds, readAs}
 use Rattle.bundle_rules.proofs.RoundTrip.{accepted, fits-read}
 use Rattle.bundle.specs.declared.Contents.{Contents}
-use Rattle.bundle.specs.declared.Answered.{Answered}
+use Rattle.bundle.specs.declared.BundleRead.{BundleRead}
 use Rattle.bundle.specs.declared.Verdict.the-variants.{Good, Refused}
 use Rattle.bundle.specs.Contents.{Holds, endOf, Lent}
 use Rattle.bundle.specs.Reads.{Tells, Reads, ReadsCounted}
@@ -80,21 +80,21 @@ empty : (rest : List ℕ) → length rest ≡ 0 → rest ≡ []
 empty [] e = refl
 empty (x ∷ rest) e = absurd (omega arith)
 
-is-refused : (r : Answered) (s : List ℕ) (g : Refusal) (a : Answer) → Tells r s a → r .verdict ≡ Refused g → a ≡ refused g
+is-refused : (r : BundleRead) (s : List ℕ) (g : Refusal) (a : Answer) → Tells r s a → r .verdict ≡ Refused g → a ≡ refused g
 is-refused r s g (refused h) t e = let i : h ≡ g = cc in rw i
 is-refused r s g (holds es) t e = let z : _≡_ {A = ℕ} 0 1 = cc (t .0) in absurd (omega arith)
 
 -- the scripts of a bundle that is not refused
-record Scripts (r : Answered) (s : List ℕ) : Type 0 where
+record Scripts (r : BundleRead) (s : List ℕ) : Type 0 where
   es : List Entry
   is : readAs s ≡ holds es
   held : Holds (r .contents) (drop (contentsLength (length es)) s) es
 
-is-good : (r : Answered) (s : List ℕ) (a : Answer) → readAs s ≡ a → Tells r s a → r .verdict ≡ Good → Scripts r s
+is-good : (r : BundleRead) (s : List ℕ) (a : Answer) → readAs s ≡ a → Tells r s a → r .verdict ≡ Good → Scripts r s
 is-good r s (refused h) i t e = let z : _≡_ {A = ℕ} 0 1 = cc in absurd (omega arith)
 is-good r s (holds es) i t e = record { es = es; is = i; held = t .1 }
 
-module _ (kept : List ℕ) (more : ℕ) (r : Answered) (k : ReadsCounted kept more r) where
+module _ (kept : List ℕ) (more : ℕ) (r : BundleRead) (k : ReadsCounted kept more r) where
   reads-rest : (rest : List ℕ) → Behind kept more rest → Reads (kept ++ rest) r
   reads-rest rest b =
       elim (decLt 0 more) [

@@ -5,17 +5,17 @@ ghost use Rattle.bundle.specs.Contents.{bodyAt};
 ghost use Rattle.bundle.specs.Reads.{Reads, ReadsCounted};
 ghost use Rattle.bundle.specs.Writes.{Writes};
 ghost use Rattle.bundle_jobs.specs.Named.{nameFor};
-use bundle::Answered;
+use bundle::BundleRead;
 use bundle::Contents;
 use bundle::Written;
 
-pub fn read(bundle: &[u8]) -> Answered
+pub fn read(bundle: &[u8]) -> BundleRead
     ensures { λ r. ⌜ Reads (now (bundle .entry)) r ⌝ }
 {
     bundle::read(bundle)
 }
 
-pub fn read_counted(kept: &[u8], more: u64) -> Answered
+pub fn read_counted(kept: &[u8], more: u64) -> BundleRead
     ensures { λ r. ⌜ ReadsCounted (now (kept .entry)) more r ⌝ }
 {
     bundle::read_counted(kept, more)
