@@ -16,7 +16,7 @@ RUSTFLAGS="-C instrument-coverage" LLVM_PROFILE_FILE=$out/build.profraw \
     cargo build --quiet --offline --target-dir $out || exit 2
 case $1 in
 sample) set -- check ../crates/replay/data ;;
-soak) set -- soak --seed 0 --scripts 2000 --lines 60 --clocks ;;
+soak) set -- soak --seed 0 --scripts 2000 --lines 60 ;;
 *)
     echo "usage: coverage.sh sample|soak" >&2
     exit 2

@@ -119,7 +119,7 @@ pub fn workloads() -> Vec<Workload> {
 impl Workload {
     /// Its records, with the repeated steps `times` as often as in the shorter run.
     pub fn records(&self, times: usize) -> Vec<u8> {
-        let mut records = start_record(&script::fresh(self.start.as_bytes(), false).expect("a first line"));
+        let mut records = start_record(&script::fresh(self.start.as_bytes()).expect("a first line"));
         records.extend(step_records(&self.before));
         let repeated = step_records(&self.repeated);
         for _ in 0..self.repeats * times {

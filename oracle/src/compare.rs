@@ -1,6 +1,7 @@
 //! Both sides on the same generated scripts, whole states compared, and a difference cut down.
 
 use crate::generator::{self, Wish};
+use crate::script;
 use crate::semtrace::{run_caught, Count, Options};
 use crate::step::SLOTS;
 use crate::tell::{self, Differing};
@@ -10,20 +11,15 @@ use std::thread;
 
 /// So many scripts are given to the other side in one run of it.
 const AT_ONCE: u64 = 250;
-/// One script in so many has starting clocks.
-const CLOCKS_IN: u64 = 4;
 /// What the other side prints behind the text for a script.
 const END: &str = "end\n";
 
-/// The other side may be given starting clocks, so the first line is read so on this side too.
-const OPTIONS: Options = Options {
-    state: true,
-    clocks: true,
-};
+const OPTIONS: Options = Options { state: true };
 
 #[derive(Default)]
 pub struct Compared {
     pub scripts: u64,
+    /// Those whose first line gives the starting clocks; the others that start spawn their tasks.
     pub with_clocks: u64,
     /// Those that have every line that was wished for; the others end early.
     pub whole: u64,
@@ -49,13 +45,13 @@ pub fn compare(program: &str, wish: Wish, scripts: u64) -> io::Result<Compared> 
     while compared.difference.is_none() && seed < wish.seed + scripts {
         let until = (seed + AT_ONCE).min(wish.seed + scripts);
         let texts: Vec<String> = (seed..until)
-            .map(|seed| generator::script(wish_of(wish, seed)))
+            .map(|seed| generator::script(Wish { seed, ..wish }))
             .collect();
         let rust: Vec<String> = texts.iter().map(|text| rust_side(text, &mut compared.count)).collect();
         let printed = other_side(program, &texts)?;
         let same = printed_alike(&rust, &printed);
         compared.scripts += same as u64;
-        compared.with_clocks += (seed..until).take(same).filter(|seed| has_clocks(*seed)).count() as u64;
+        compared.with_clocks += texts[..same].iter().filter(|text| gives_clocks(text)).count() as u64;
         let lengths: Vec<usize> = texts[..same].iter().map(|text| text.lines().count()).collect();
         compared.whole += lengths.iter().filter(|length| **length == wish.lines).count() as u64;
         compared.lines += lengths.iter().sum::<usize>();
@@ -68,16 +64,11 @@ pub fn compare(program: &str, wish: Wish, scripts: u64) -> io::Result<Compared> 
     Ok(compared)
 }
 
-fn has_clocks(seed: u64) -> bool {
-    seed % CLOCKS_IN == 0
-}
-
-fn wish_of(wish: Wish, seed: u64) -> Wish {
-    Wish {
-        seed,
-        clocks: has_clocks(seed),
-        ..wish
-    }
+fn gives_clocks(script: &str) -> bool {
+    let first = script::lines(script.as_bytes()).next().flatten();
+    first
+        .and_then(script::fresh)
+        .is_some_and(|fresh| fresh.clocks.is_some())
 }
 
 /// What the Rust gives.

@@ -29,7 +29,7 @@ struct Held<'a> {
 /// Run `body` on a fresh state that document 01 accepts.
 pub fn with_machine<T>(fresh: &Fresh, body: impl FnOnce(&mut Machine<'_>) -> T) -> T {
     assert!(!fresh.is_refused(), "a refused fresh state is never made");
-    ExecutionState::install(starting_clocks(fresh));
+    start_tasks(fresh);
     let fairness = if fresh.strictly_fair {
         Fairness::StrictlyFair
     } else {
@@ -51,15 +51,21 @@ pub fn with_machine<T>(fresh: &Fresh, body: impl FnOnce(&mut Machine<'_>) -> T) 
     result
 }
 
-fn starting_clocks(fresh: &Fresh) -> Vec<VectorClock> {
+/// The tasks with the clocks given, or task 0 and the others as it spawns them. It spawns threads and futures in
+/// turn: the source has a function for each, and the clocks do not differ by that.
+fn start_tasks(fresh: &Fresh) {
     let tasks = fresh.tasks as usize;
-    match &fresh.clocks {
-        Some(entries) => entries.chunks(tasks).map(VectorClock::from).collect(),
-        None => {
-            let mut zero = VectorClock::new();
-            zero.extend(TaskId::from(tasks - 1));
-            vec![zero; tasks]
-        }
+    if let Some(entries) = &fresh.clocks {
+        return ExecutionState::install(entries.chunks(tasks).map(VectorClock::from).collect());
+    }
+    ExecutionState::install(vec![]);
+    let main = ExecutionState::spawn_main_thread();
+    ExecutionState::run_as(main);
+    for task in 1..tasks {
+        match task % 2 {
+            1 => ExecutionState::spawn_thread(None),
+            _ => ExecutionState::spawn_future(),
+        };
     }
 }
 
@@ -135,7 +141,7 @@ impl Machine<'_> {
     }
 
     pub fn state(&self) -> State {
-        let tasks: Vec<Task> = ExecutionState::with(|state| state.tasks().iter().map(Task::read).collect());
+        let tasks = ExecutionState::with(|state| Task::read_all(state.tasks()));
         let wide = |clock: &VectorClock| widened(clock, tasks.len());
         let batch = |(size, clock): &(usize, VectorClock)| (*size, wide(clock));
 

@@ -12,9 +12,9 @@ use std::process::ExitCode;
 
 const USAGE: &str = "\
 usage:
-  oracle [--state] [--count] [--clocks] < SCRIPT
-  oracle gen --seed N --lines L [--clocks]
-  oracle soak --seed N --scripts K --lines L [--clocks]
+  oracle [--state] [--count] < SCRIPT
+  oracle gen --seed N --lines L
+  oracle soak --seed N --scripts K --lines L
   oracle compare PROGRAM --seed N --scripts K --lines L
   oracle tell < ROWS
   oracle sample DIRECTORY
@@ -61,7 +61,6 @@ fn main() -> ExitCode {
 struct Flags {
     state: bool,
     count: bool,
-    clocks: bool,
     seed: u64,
     scripts: u64,
     lines: usize,
@@ -75,7 +74,6 @@ impl Flags {
             match word {
                 "--state" => flags.state = true,
                 "--count" => flags.count = true,
-                "--clocks" => flags.clocks = true,
                 "--seed" => flags.seed = number()?,
                 "--scripts" => flags.scripts = number()?,
                 "--lines" => flags.lines = number()? as usize,
@@ -89,7 +87,6 @@ impl Flags {
         Wish {
             seed: self.seed,
             lines: self.lines,
-            clocks: self.clocks,
         }
     }
 }
@@ -117,10 +114,7 @@ fn run_script(flags: &Flags) -> Result<ExitCode, String> {
     if let Some(name) = fault() {
         output += &format!("FAULT {name}: this build carries a deliberate fault\n");
     }
-    let options = Options {
-        state: flags.state,
-        clocks: flags.clocks,
-    };
+    let options = Options { state: flags.state };
     let ran = panic::catch_unwind(AssertUnwindSafe(|| {
         run_watched(&mut output, &script, options, &mut |_| ())
     }));

@@ -104,8 +104,10 @@ pub fn points(before: &State, step: &Step, events: &[Event]) -> Points {
     };
     for (i, event) in events.iter().enumerate() {
         if let Event::Point { tasks, .. } = event {
-            let tasks: Vec<Task> = tasks.iter().map(Task::read).collect();
-            assert!(i == 0 && tasks == before.tasks, "a point comes before the step");
+            assert!(
+                i == 0 && Task::read_all(tasks) == before.tasks,
+                "a point comes before the step"
+            );
         }
     }
     match step.act {

@@ -21,9 +21,12 @@ pub fn refusal(state: &State, step: &Step) -> Option<u8> {
             (8, full(state)),
         ],
         Act::Upgrade { held, wanted } => vec![(7, no_upgrade(held, wanted)), (8, full(state))],
-        Act::Try { asked } => vec![(5, asked == 0), (11, cannot_tick(state, step))],
+        Act::Try { asked } => vec![(5, asked == 0), (11, cannot_tick(state, step.actor as usize))],
         Act::TryUpgrade { held, wanted } => {
-            vec![(7, no_upgrade(held, wanted)), (11, cannot_tick(state, step))]
+            vec![
+                (7, no_upgrade(held, wanted)),
+                (11, cannot_tick(state, step.actor as usize)),
+            ]
         }
         Act::Release { count } => release_grounds(state, step, count as usize),
         Act::Poll { slot } => match state.in_use(slot) {
@@ -31,7 +34,10 @@ pub fn refusal(state: &State, step: &Step) -> Option<u8> {
             Some(request) => vec![
                 (4, request.completed),
                 (5, asks_for_nothing(state, request)),
-                (11, poll_takes(state, slot as usize) && cannot_tick(state, step)),
+                (
+                    11,
+                    poll_takes(state, slot as usize) && cannot_tick(state, step.actor as usize),
+                ),
             ],
         },
         Act::Drop { slot } => match state.in_use(slot) {
@@ -55,8 +61,7 @@ fn no_upgrade(held: u32, wanted: u32) -> bool {
     held == 0 || wanted <= held
 }
 
-fn cannot_tick(state: &State, step: &Step) -> bool {
-    let actor = step.actor as usize;
+pub fn cannot_tick(state: &State, actor: usize) -> bool {
     state.tasks[actor].clock[actor] == u32::MAX
 }
 
@@ -65,7 +70,7 @@ fn release_grounds(state: &State, step: &Step, count: usize) -> Vec<(u8, bool)> 
     vec![
         (10, state.stock + count > LARGEST),
         (9, count > 0 && no_room),
-        (11, count > 0 && cannot_tick(state, step)),
+        (11, count > 0 && cannot_tick(state, step.actor as usize)),
     ]
 }
 

@@ -18,40 +18,19 @@ const SEEDS: u64 = 12_000;
 /// Larger texts are taken only for what nothing else reaches.
 const LARGE: usize = 6_000;
 
-/// So many generated scripts have starting clocks.
-const WITH_CLOCKS: usize = 20;
-
-/// The endings of scripts without starting clocks and with them.
-const PLAIN: &str = "script";
-const CLOCKS: &str = "clocks";
+const OPTIONS: Options = Options { state: true };
 
 pub struct Recorded {
     pub script: String,
     pub state: String,
-    pub clocks: bool,
 }
 
-impl Recorded {
-    fn ending(&self) -> &'static str {
-        if self.clocks {
-            CLOCKS
-        } else {
-            PLAIN
-        }
-    }
-}
-
-fn options(clocks: bool) -> Options {
-    Options { state: true, clocks }
-}
-
-/// The known scripts, then generated ones, so that together they reach every situation several times; then
-/// those with starting clocks, and a few that fill what is there to fill.
+/// The known scripts that come first, then generated ones, so that together they reach every situation several
+/// times; then the other known ones.
 pub fn chosen() -> Vec<Recorded> {
     let mut chosen = Chosen::default();
-    let known = known::KNOWN.iter().map(|(_, script)| known::text(script));
-    for script in known.chain(known::k16()) {
-        let (recorded, tally) = record(script, false);
+    for script in known::first() {
+        let (recorded, tally) = record(script);
         chosen.take(recorded, &tally);
     }
     let fewest = chosen.sample.len() + FEWEST;
@@ -60,9 +39,8 @@ pub fn chosen() -> Vec<Recorded> {
         let wish = Wish {
             seed,
             lines: 10 + (seed as usize * 7) % 31,
-            clocks: false,
         };
-        let (recorded, tally) = record(generator::script(wish), false);
+        let (recorded, tally) = record(generator::script(wish));
         let small = recorded.state.len() <= LARGE;
         if chosen.wants(&tally, if small { WANTED } else { 1 }) {
             chosen.take(recorded, &tally);
@@ -72,30 +50,8 @@ pub fn chosen() -> Vec<Recorded> {
     }
     let missing = fewest.saturating_sub(chosen.sample.len());
     chosen.sample.extend(spare.into_iter().take(missing));
-    chosen.sample.extend(chosen_with_clocks());
-    chosen.sample.push(record(known::full_queue(), false).0);
-    chosen.sample.push(record(known::full_twice(), false).0);
-    chosen.sample.push(record(known::slot_is_no_task(), true).0);
+    chosen.sample.extend(known::last().map(|script| record(script).0));
     chosen.sample
-}
-
-/// The known scripts with starting clocks, then the first generated ones that are not large.
-fn chosen_with_clocks() -> Vec<Recorded> {
-    let known = known::KNOWN_WITH_CLOCKS.iter().map(|(_, script)| known::text(script));
-    let wish = |seed| Wish {
-        seed,
-        lines: 40,
-        clocks: true,
-    };
-    let generated = (0..SEEDS).map(|seed| record(generator::script(wish(seed)), true).0);
-    known
-        .map(|script| record(script, true).0)
-        .chain(
-            generated
-                .filter(|recorded| recorded.state.len() <= LARGE)
-                .take(WITH_CLOCKS),
-        )
-        .collect()
 }
 
 #[derive(Default)]
@@ -121,16 +77,15 @@ impl Chosen {
     }
 }
 
-fn record(script: String, clocks: bool) -> (Recorded, Tally) {
+fn record(script: String) -> (Recorded, Tally) {
     let (mut state, mut tally) = (String::new(), Tally::default());
-    run_watched(&mut state, script.as_bytes(), options(clocks), &mut |happening| {
+    run_watched(&mut state, script.as_bytes(), OPTIONS, &mut |happening| {
         tally.add(happening)
     });
-    (Recorded { script, state, clocks }, tally)
+    (Recorded { script, state }, tally)
 }
 
-/// Write the sample to a directory, as `NNN.script` or `NNN.clocks`, and `NNN.state`, in the place of what
-/// was there.
+/// Write the sample to a directory, as `NNN.script` and `NNN.state`, in the place of what was there.
 pub fn write(directory: &Path) -> io::Result<usize> {
     fs::create_dir_all(directory)?;
     for path in scripts(directory)? {
@@ -139,10 +94,7 @@ pub fn write(directory: &Path) -> io::Result<usize> {
     }
     let sample = chosen();
     for (number, recorded) in sample.iter().enumerate() {
-        fs::write(
-            directory.join(format!("{number:03}.{}", recorded.ending())),
-            &recorded.script,
-        )?;
+        fs::write(directory.join(format!("{number:03}.script")), &recorded.script)?;
         fs::write(directory.join(format!("{number:03}.state")), &recorded.state)?;
     }
     Ok(sample.len())
@@ -152,23 +104,16 @@ pub fn write(directory: &Path) -> io::Result<usize> {
 pub fn rewrite(directory: &Path) -> io::Result<usize> {
     let paths = scripts(directory)?;
     for path in &paths {
-        fs::write(
-            path.with_extension("state"),
-            run(&fs::read(path)?, options(has_clocks(path))).0,
-        )?;
+        fs::write(path.with_extension("state"), run(&fs::read(path)?, OPTIONS).0)?;
     }
     Ok(paths.len())
-}
-
-fn has_clocks(path: &Path) -> bool {
-    path.extension().is_some_and(|ending| ending == CLOCKS)
 }
 
 /// The scripts of a directory, in order.
 fn scripts(directory: &Path) -> io::Result<Vec<PathBuf>> {
     let entries = fs::read_dir(directory)?.map(|entry| Ok(entry?.path()));
     let mut paths = entries.collect::<io::Result<Vec<PathBuf>>>()?;
-    paths.retain(|path| has_clocks(path) || path.extension().is_some_and(|ending| ending == PLAIN));
+    paths.retain(|path| path.extension().is_some_and(|ending| ending == "script"));
     paths.sort();
     Ok(paths)
 }
@@ -188,7 +133,7 @@ pub fn check(directory: &Path) -> io::Result<Checked> {
     let mut checked = Checked::default();
     for path in scripts(directory)? {
         let recorded = fs::read_to_string(path.with_extension("state"))?;
-        let (printed, _) = run_caught(&fs::read(&path)?, options(has_clocks(&path)));
+        let (printed, _) = run_caught(&fs::read(&path)?, OPTIONS);
         checked.scripts += 1;
         if printed != recorded {
             let name = path.file_stem().unwrap_or_default();

@@ -1,4 +1,4 @@
-//! The text of a script: document 01, "The script program".
+//! The text of a script: document 01, "The script program", and document 02, No. 2, for the first line.
 
 use crate::step::{Act, Fresh, Step};
 
@@ -12,16 +12,18 @@ pub fn lines(script: &[u8]) -> impl Iterator<Item = Option<&[u8]>> {
         .map(|line| line.strip_suffix(b"\n"))
 }
 
-/// The first line. `with_clocks` allows the starting clocks after the task count, row by row.
-pub fn fresh(line: &[u8], with_clocks: bool) -> Option<Fresh> {
+/// The first line, with the starting clocks after the task count, row by row, all or none.
+pub fn fresh(line: &[u8]) -> Option<Fresh> {
     let fields: Vec<&[u8]> = fields(line).collect();
-    let [letter, stock, maker, tasks, clocks @ ..] = &fields[..] else {
+    let [letter, stock, maker, tasks, entries @ ..] = &fields[..] else {
         return None;
     };
-    if !(clocks.is_empty() || with_clocks) {
+    let tasks = number(tasks)?;
+    let entries: Vec<u32> = entries.iter().map(|entry| number(entry)).collect::<Option<_>>()?;
+    let all = u64::from(tasks) * u64::from(tasks); // the product of two numbers of 32 bits fits 64
+    if !entries.is_empty() && entries.len() as u64 != all {
         return None;
     }
-    let clocks: Vec<u32> = clocks.iter().map(|entry| number(entry)).collect::<Option<_>>()?;
     Some(Fresh {
         strictly_fair: match *letter {
             b"S" => true,
@@ -33,8 +35,8 @@ pub fn fresh(line: &[u8], with_clocks: bool) -> Option<Fresh> {
             b"-" => None,
             maker => Some(number(maker)?),
         },
-        tasks: number(tasks)?,
-        clocks: (!clocks.is_empty()).then_some(clocks),
+        tasks,
+        clocks: (!entries.is_empty()).then_some(entries),
     })
 }
 

@@ -12,8 +12,6 @@ use std::panic::{self, AssertUnwindSafe};
 pub struct Options {
     /// Print the whole state after each accepted line.
     pub state: bool,
-    /// Let the first line carry starting clocks.
-    pub clocks: bool,
 }
 
 /// How many steps were left out because document 01 refuses them, of how many.
@@ -60,7 +58,7 @@ pub fn run_watched(
     let Some(first) = lines.next() else {
         return count;
     };
-    let Some(fresh) = first.and_then(|line| script::fresh(line, options.clocks)) else {
+    let Some(fresh) = first.and_then(script::fresh) else {
         output.push_str("bad\n");
         return count;
     };
@@ -69,6 +67,7 @@ pub fn run_watched(
         return count;
     }
     with_machine(&fresh, |machine| {
+        let start = machine.state();
         print(output, &Ok(FRESH), machine, options);
         for line in lines {
             let Some(step) = line.and_then(script::step) else {
@@ -78,6 +77,8 @@ pub fn run_watched(
             let before = machine.state();
             let result = machine.step(&step);
             watch(&Happening {
+                fresh: &fresh,
+                start: &start,
                 before: &before,
                 step: &step,
                 result: &result,

@@ -13,10 +13,7 @@ pub struct Soaked {
 
 /// Run `scripts` scripts, with the seeds from that of `wish` on.
 pub fn soak(wish: Wish, scripts: u64) -> Soaked {
-    let options = Options {
-        state: true,
-        clocks: wish.clocks,
-    };
+    let options = Options { state: true };
     let mut soaked = Soaked {
         count: Count::default(),
         tally: Tally::default(),

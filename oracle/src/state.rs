@@ -52,8 +52,12 @@ pub struct Request {
 }
 
 impl Task {
-    /// A task as the stand-ins have it.
-    pub fn read(task: &task::Task) -> Self {
+    /// The tasks as the stand-ins have them.
+    pub fn read_all(tasks: &[task::Task]) -> Vec<Self> {
+        tasks.iter().map(|task| Self::read(task, tasks.len())).collect()
+    }
+
+    fn read(task: &task::Task, tasks: usize) -> Self {
         Self {
             run: match task.state() {
                 TaskState::Runnable => Run::Runnable,
@@ -62,7 +66,7 @@ impl Task {
                 TaskState::Finished => Run::Finished,
             },
             woken: task.woken(),
-            clock: task.clock.to_vec(),
+            clock: widened(&task.clock, tasks),
         }
     }
 }
@@ -85,7 +89,8 @@ impl Request {
     }
 }
 
-/// The Rust's clocks grow when they meet longer ones; the rules' are all as wide as there are tasks.
+/// The Rust's clocks grow when they meet longer ones, and a spawned task's starts with the entries up to its own;
+/// the rules' are all as wide as there are tasks.
 pub fn widened(clock: &VectorClock, tasks: usize) -> Clock {
     assert!(
         clock.len() <= tasks,

@@ -14,12 +14,12 @@ pub struct Fresh {
     /// The task that makes the semaphore by `new`; none for `const_new`.
     pub maker: Option<u32>,
     pub tasks: u32,
-    /// The starting clocks row by row; all zero if not given.
+    /// The starting clocks row by row; if not given, task 0 spawns the rest.
     pub clocks: Option<Vec<u32>>,
 }
 
 impl Fresh {
-    /// Refusal 12.
+    /// Refusal 12. No script meets its clause on the clocks: a line with too few or too many is bad.
     pub fn is_refused(&self) -> bool {
         let tasks = self.tasks as usize;
         let clocks_fit = |clocks: &Vec<u32>| clocks.len() == tasks * tasks;

@@ -1,8 +1,13 @@
-//! Document 01's runs, and what the Rust does that is easy to miss.
+//! Document 01's runs, and what the Rust does that is easy to miss. Where clocks are shown, the runs start from
+//! zero clocks, as document 01's do: an entry is then the number of ticks in the run.
 
 mod common;
 
-use common::{answers, last, lines, state};
+use common::{answers, from_zeros, last, lines};
+
+fn state(script: &str, name: &str) -> String {
+    common::state(&from_zeros(script), name)
+}
 
 #[test]
 fn k1_a_failed_try_ticks() {

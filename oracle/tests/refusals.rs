@@ -3,6 +3,7 @@
 mod common;
 
 use common::{answers, last};
+use oracle::step::Fresh;
 
 fn refused(script: &str) -> String {
     answers(script).pop().expect("something is printed")
@@ -98,4 +99,20 @@ fn a_dropped_holder_meets_9_and_10_and_stays() {
         last(&format!("{holder}/L 0 4294967295/D 0 0")),
         "r10 4294967295 4294967295 0 0 -"
     );
+}
+
+/// No script says so, since such a line is bad; whoever makes a fresh state otherwise can.
+#[test]
+fn twelve_for_a_clock_list_that_is_not_tasks_times_tasks_long() {
+    let refused = |entries: usize| {
+        let fresh = Fresh {
+            strictly_fair: true,
+            stock: 1,
+            maker: Some(0),
+            tasks: 2,
+            clocks: Some(vec![0; entries]),
+        };
+        fresh.is_refused()
+    };
+    assert_eq!([0, 3, 4, 5].map(refused), [true, true, false, true]);
 }

@@ -1,4 +1,4 @@
-//! The text of scripts: document 01, "The script program".
+//! The text of scripts: document 01, "The script program", and document 02, No. 2, for the first line.
 
 use oracle::semtrace::{run, Options};
 
@@ -17,7 +17,7 @@ fn empty_input_prints_nothing_and_a_line_feed_is_a_bad_first_line() {
 fn a_bad_first_line_ends_the_program() {
     for first in [
         "S 1 0",
-        "S 1 0 1 0",
+        "S 1 0 1 0 0",
         "s 1 0 1",
         "S 1 0 01",
         "S 1 00 1",
@@ -130,16 +130,83 @@ fn more_than_65536_bytes_print_only_long() {
     assert_eq!(printed(script.as_bytes()), "long\n");
 }
 
+/// A first line with so many zeros behind it.
+fn with_zeros(line: &str, entries: usize) -> String {
+    line.to_string() + &" 0".repeat(entries)
+}
+
+/// What is printed for a first line and a try of 1 by task 0.
+fn started(first: &str) -> String {
+    printed(format!("{first}\nT 0 1\n").as_bytes())
+}
+
 #[test]
-fn starting_clocks_are_read_only_where_they_are_asked_for() {
-    let script = b"S 1 0 2 5 6 7 8\nT 1 1\n";
-    assert_eq!(printed(script), "bad\n");
-    let options = Options {
-        clocks: true,
-        state: true,
-    };
-    let with_clocks = run(script, options).0;
-    assert!(with_clocks.contains("\n 3 1 1\n 4 0 5 6\n"), "{with_clocks}");
-    assert!(with_clocks.contains("\n 9 1 7 9\n"), "{with_clocks}");
-    assert_eq!(run(b"S 1 0 2 5 6 7\n", options).0, "r12\n");
+fn the_starting_clocks_come_row_by_row() {
+    let whole = run(b"S 1 0 2 5 6 7 8\nT 1 1\n", Options { state: true }).0;
+    assert!(whole.contains("\n 3 1 1\n 4 0 5 6\n"), "{whole}");
+    assert!(whole.contains("\n 9 0 5 6\n 9 1 7 8\n"), "{whole}");
+    assert!(whole.contains("\n 9 0 5 6\n 9 1 7 9\n"), "{whole}");
+    assert_eq!(started("S 1 0 1 1"), "done 1 1 0 0 -\ngranted 0 0 0 0 t\n");
+}
+
+#[test]
+fn starting_clocks_are_all_or_none() {
+    for first in [
+        "S 1 - 2 0 0 0",
+        "S 1 - 2 0 0 0 0 0",
+        "S 1 - 1 0 0",
+        "S 1 - 0 5",
+        "S 1 - 3 0",
+        "S 0 - 2147483649 0",
+        "S 0 - 4294967295 0",
+        "S 0 - 65536 0",
+        "S 1 9 2 0 0 0",
+    ] {
+        assert_eq!(started(first), "bad\n", "{first}");
+    }
+    for entries in [1, 255, 256, 257, 288, 290] {
+        assert_eq!(started(&with_zeros("S 1 - 17", entries)), "bad\n", "{entries}");
+    }
+    for entries in [1, 255, 257, 289] {
+        assert_eq!(started(&with_zeros("S 1 - 16", entries)), "bad\n", "{entries}");
+    }
+    for entries in [0, 256] {
+        assert!(started(&with_zeros("S 1 - 16", entries)).starts_with("done 1 1 0 0 -\n"));
+    }
+}
+
+#[test]
+fn every_entry_is_a_number_of_the_script() {
+    for entries in [
+        "0 0 0 0 ",
+        " 0 0 0 0",
+        "0 0  0 0",
+        "0 0 0 00",
+        "0 0 01 0",
+        "0 0 0 4294967296",
+        "99999999999999999999 0 0 0",
+        "0 x 0 0",
+        "0 -1 0 0",
+        "0 - 0 0",
+        "0 0 0 0\r",
+        "0\t0 0 0 0",
+        "0,0,0,0",
+    ] {
+        assert_eq!(started(&format!("S 1 - 2 {entries}")), "bad\n", "{entries:?}");
+    }
+    assert_eq!(started("S 1 - 2 "), "bad\n", "a space, and no entry");
+    assert!(started("S 1 - 2 0 0 0 4294967295").starts_with("done"));
+}
+
+#[test]
+fn bad_comes_before_12() {
+    assert_eq!(started("S 1 9 2 0 0 0"), "bad\n");
+    assert_eq!(started("S 1 9 2 0 0 0 0"), "r12\n");
+    assert_eq!(started("S 1 - 0 5"), "bad\n");
+    assert_eq!(started("S 1 - 0"), "r12\n");
+    assert_eq!(started("S 1 - 17"), "r12\n");
+    assert_eq!(started(&with_zeros("S 1 - 17", 288)), "bad\n");
+    assert_eq!(started(&with_zeros("S 1 - 17", 289)), "r12\n");
+    assert_eq!(started(&with_zeros("S 1 - 180", 180 * 180)), "r12\n", "32,400 entries");
+    assert_eq!(started(&with_zeros("S 1 - 180", 180 * 180 - 1)), "bad\n");
 }

@@ -36,7 +36,7 @@ fn the_taken_texts_are_the_sources() {
             stretches += 1;
         }
     }
-    assert!(stretches > 15, "only {stretches} stretches were found");
+    assert_eq!(stretches, 36, "a stretch was added, or one is not found");
 }
 
 /// The lines that `FILE FIRST-LAST` names.

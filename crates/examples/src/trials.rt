@@ -1,65 +1,9 @@
-// Runs that no short script reaches: K14's other half, a task's record that is lent, and scripts of 65,536 and 65,537 bytes.
+// Runs that no short script reaches: a task's record that is lent, first lines of more than 32,000 entries, and scripts of 65,536 and 65,537
+// bytes.
+ghost use mathlib.Core.Path.{_≡_};
+ghost use lib.ListN.{length};
 use libc::STDOUT_FILENO;
 use records::Task;
-use replies::Reply;
-use rules::Fairness;
-use rules::TaskId;
-
-// The number of a refusal; 0 if there is none.
-fn refusal(r: Reply) -> u8 {
-    let Reply::Refused(why) = r else {
-        return 0;
-    };
-    replies::number(why)
-}
-
-// The refusal of a release whose actor's own entry is at its largest.
-fn last_tick() -> u8 {
-    let mut slots = [0u32; 320];
-    let mut tasks = [0u32; 32];
-    let mut sizes = [0u32; 64];
-    let mut rows = [0u32; 1024];
-    let mut last = [0u32; 16];
-    let mut makers = [0u32; 512];
-    let mut clocks = [0u32; 256];
-    let mut grants = [0u32; 96];
-    let starts = [4294967295u32; 1];
-    let made = fresh::new(
-        Fairness::StrictlyFair,
-        0,
-        1,
-        &starts,
-        TaskId(0),
-        &mut slots,
-        &mut tasks,
-        &mut sizes,
-        &mut rows,
-        &mut last,
-        &mut makers,
-        &mut clocks,
-    );
-    let stepped = semaphore::release(
-        made.state,
-        &mut slots,
-        &mut tasks,
-        &mut sizes,
-        &mut rows,
-        &mut last,
-        &mut makers,
-        &mut clocks,
-        &mut grants,
-        TaskId(0),
-        1,
-    );
-    let reply = stepped.reply;
-    refusal(reply)
-}
-
-fn say_refusal() {
-    io::write_all(STDOUT_FILENO, b"own entry at its largest, release 1: r");
-    io::print_decimal(STDOUT_FILENO, last_tick() as u64);
-    io::write_all(STDOUT_FILENO, b"\n");
-}
 
 fn say_task(t: Task) {
     if t.runnable() {
@@ -82,6 +26,44 @@ fn say_altered() {
     say_task(asleep);
     say_task(altering::woke(asleep));
     io::write_all(STDOUT_FILENO, b"\n");
+}
+
+// Zeros, to put a first line into.
+fn entries() -> [u8; 65536] {
+    [b'0'; 65536]
+}
+
+// A first line of 181 tasks, with the 32,761 entries of their clocks and no line feed yet.
+fn put_entries(line: &mut [u8])
+    requires { ⌜ length (now line) ≡ 65536 ⌝ }
+{
+    text::put(line, 0, b"S 1 - 181");
+    let mut i: usize = 9;
+    while i < 65531 {
+        line[i] = b' ';
+        i += 2;
+    }
+}
+
+// What such a line prints with all its entries, and with one less.
+fn say_entries() {
+    let mut line = entries();
+    put_entries(&mut line);
+    line[65531] = b'\n';
+    let mut out = output();
+    let k = trace::run(&line, &mut out);
+    io::write_all(STDOUT_FILENO, b"181 tasks, 32761 entries: ");
+    io::write_all(STDOUT_FILENO, &out[..k]);
+}
+
+fn say_one_less() {
+    let mut line = entries();
+    put_entries(&mut line);
+    line[65529] = b'\n';
+    let mut out = output();
+    let k = trace::run(&line, &mut out);
+    io::write_all(STDOUT_FILENO, b"181 tasks, 32760 entries: ");
+    io::write_all(STDOUT_FILENO, &out[..k]);
 }
 
 // Line feeds alone: the longest script, and one byte more.
@@ -118,8 +100,9 @@ fn say_too_long() {
 }
 
 pub fn tell() {
-    say_refusal();
     say_altered();
+    say_entries();
+    say_one_less();
     say_longest();
     say_too_long();
 }

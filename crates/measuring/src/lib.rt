@@ -206,7 +206,7 @@ fn run(src: &[u8], by_calls: bool) -> u64
     let mut makers = [0u32; 512];
     let mut clocks = [0u32; 256];
     let mut grants = [0u32; 96];
-    let r = starting::start(
+    let r = starting::start_spawned(
         first(src),
         &mut slots,
         &mut tasks,

@@ -5,6 +5,7 @@ use Prim.Native.String.{String}
 use mathlib.Core.Path.{_≡_, refl, ap, _∙_}
 use mathlib.Core.List.{List, [], _∷_, map}
 use mathlib.Core.Option.{some}
+use lib.ListN.{replicate}
 use Rattle.rules.specs.declared.TaskId.{TaskId}
 use Rattle.rules.specs.declared.Slot.{Slot}
 use Rattle.rules.specs.declared.Step.{Step}
@@ -88,8 +89,8 @@ s0 = record { 0 = 0 }
 abbrev pub s1 : Slot
 s1 = record { 0 = 1 }
 
-abbrev startOf : Case → Start
-startOf c = startWith (c .fairness) (c .stock) (some t0) 2
+abbrev startOfCase : Case → Start
+startOfCase c = startWith (c .fairness) (c .stock) (some t0) 2 (replicate 4 0)
 
 -- a run for each call
 unfoldable pub cases : List Case
@@ -195,22 +196,22 @@ abbrev steps : Case → List Step
 steps c = map (λ (r : Row). r .step) (c .rows)
 
 -- by computing
-by-rules : Each (λ (c : Case). shows (steps c) (fresh (startOf c)) ≡ wanted c) cases
+by-rules : Each (λ (c : Case). shows (steps c) (fresh (startOfCase c)) ≡ wanted c) cases
 unfolding cases shows join tick empty firstBatch freshTasks freshBatches fresh refuses12 standingOf standing eat taking takeAs takeQueued adding allBypassable direct without verdict grantQueued walk scan wakeEach wakeUnfair reblockEach reblock pollReserving pollPlain polling pollWork lowestFree make tryBy poll release dropping dropQueued dropWork dropRequest emptyQueue closing effectOf grounds refusal step joinedBy lastDigits digits outcomeText
 by-rules = (refl, (refl, (refl, (refl, (refl, (refl, (refl, (refl, (refl, (refl, (refl, tt)))))))))))
 
 -- every run of calls that meet their contracts, from a struct that met its own, shows what is wanted
 abbrev pub ToldBy : Case → Type 0
-ToldBy c = (r : Started) (w : Words) → Begins (startOf c) r w → (cs : List Call) → Calls (record { struct = r .state; words = w }) cs → stepsOf cs ≡ steps c → shownIn cs ≡ wanted c
+ToldBy c = (r : Started) (w : Words) → Begins (startOfCase c) r w → (cs : List Call) → Calls (record { struct = r .state; words = w }) cs → stepsOf cs ≡ steps c → shownIn cs ≡ wanted c
 
-one-told : (c : Case) → shows (steps c) (fresh (startOf c)) ≡ wanted c → ToldBy c
+one-told : (c : Case) → shows (steps c) (fresh (startOfCase c)) ≡ wanted c → ToldBy c
 one-told c e r w b cs k same =
-    carried-shown cs (record { struct = r .state; words = w }) (λ room i. started-unbroken r w room (startOf c) (b .gives) i) k
+    carried-shown cs (record { struct = r .state; words = w }) (λ room i. started-unbroken r w room (startOfCase c) (b .gives) i) k
     ∙ ap (λ (xs : List Step). shows xs (viewOf (r .state) w)) same
-    ∙ ap (λ (s : State). shows (steps c) s) (accepted-fresh r w (startOf c) (b .gives) (b .accepted))
+    ∙ ap (λ (s : State). shows (steps c) s) (accepted-fresh r w (startOfCase c) (b .gives) (b .accepted))
     ∙ e
 
-each-told : (cs : List Case) → Each (λ (c : Case). shows (steps c) (fresh (startOf c)) ≡ wanted c) cs → Each ToldBy cs
+each-told : (cs : List Case) → Each (λ (c : Case). shows (steps c) (fresh (startOfCase c)) ≡ wanted c) cs → Each ToldBy cs
 each-told [] h = h
 each-told (c ∷ cs) h = (one-told c (h .0), each-told cs (h .1))
 

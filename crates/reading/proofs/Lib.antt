@@ -1,4 +1,3 @@
 pub mod Steps
-pub mod Fronts
 pub mod Numbers
 pub mod Starts

@@ -1,36 +1,39 @@
 -- The start that a first line says, with the clocks that were read.
-use Prim.Native.Nat.{ℕ, zero, suc, _+_, _*_, _-_, _^_, _≤_, _<_}
+use Prim.Native.Nat.{ℕ, _+_, _*_, _-_, _^_, _≤_, _<_}
 use native.Mathlib.Nat.{mul-le-mul}
-use native.Mathlib.Decide.{decLe, decLt}
+use native.Mathlib.Decide.{decLt}
 use native.Mathlib.Omega.{arith}
 use mathlib.Core.Path.{_≡_, refl, ap, sym, subst, _∙_}
-use mathlib.Core.Bool.{Bool, true, false, or-true}
+use mathlib.Core.Bool.{Bool, true, false}
 use mathlib.Core.List.{List, [], _∷_}
-use mathlib.Core.Option.{Option, none, some, Option·map}
-use lib.ListN.{length, take, drop, replicate, length-replicate}
-use lib.Seq.{take-length, length-take-le}
-use borrow.Author.Tests.{lt-ltb, le-ltb, le-leb, lt-leb, ne-eqb}
-use Rattle.rules.specs.Fresh.{Start, refuses12}
+use mathlib.Core.Option.{Option, none, some, Option·some-injective}
+use lib.Dec.{eqb}
+use lib.ListN.{length, take, drop}
+use lib.Seq.{length-take-le}
+use borrow.Author.Tests.{lt-ltb, le-ltb, eqb-true}
+use Rattle.rules.specs.Fresh.{Start}
+use Rattle.rules.specs.Spawning.{spawned}
 use Rattle.rules.specs.Runs.{start}
-use Rattle.rules.specs.Text.{space, fields, lines}
-use Rattle.rules.specs.Script.{_>>=_, numbersOf, startOf}
+use Rattle.rules.specs.Text.{fields, lines}
+use Rattle.rules.specs.Script.{_>>=_, numbersOf, clocksSaid, startOf}
+use Rattle.rules.proofs.Options.{said-not}
 use Rattle.rules.proofs.Laws.{refused-start}
-use Rattle.rules.proofs.Parts.{parts-front}
 use Rattle.rules.proofs.Scripts.{many-tasks}
 use Rattle.text.specs.Reading.{Within, NextIs}
 use Rattle.text.specs.declared.NextLine.{NextLine}
 use Rattle.text.specs.declared.NextLine.the-variants.{Ended, Unended, End}
 use Rattle.script.specs.declared.First.{First}
 use Rattle.script.specs.declared.Opening.{Opening}
-use Rattle.script.specs.declared.Opening.the-variants.{Is as Opens, Bad as Shut}
-use Rattle.script.specs.Opening.{opened, startNamed, startWithin}
+use Rattle.script.specs.declared.Opening.the-variants.{Spawned, Given, Bad as NoStart}
+use Rattle.script.specs.Opening.{startSaid, opened, startNamed, startWithin, Opens, PlaceWithin}
 use Rattle.script.proofs.Within.{start-within}
+use Rattle.spawning.specs.Rows.{spawnedIn}
+use Rattle.spawning.proofs.Spawns.{spawned-taken, spawned-sized}
 use Rattle.reading.specs.declared.FirstLine.{FirstLine}
 use Rattle.reading.specs.declared.FirstLine.the-variants.{Is, Bad, Nothing}
 use Rattle.reading.specs.declared.Clocks.{Clocks}
 use Rattle.reading.specs.declared.Clocks.the-variants.{Are, Bad as Unread}
-use Rattle.reading.specs.Starts.{withClocks, clockedBy, startAs, saidWith, startSaid, entriesOf, fewer, StartRead, SaysStart, SaysFirst, plainEnd, Reads, ClocksTo, fieldsBehind, Clocked}
-use Rattle.reading.proofs.Fronts.{four-fields, other-fields, no-others}
+use Rattle.reading.specs.Starts.{entriesOf, startRead, ReadsStart, SaysStart, SaysFirst, Reads, ClocksTo}
 
 -- How many entries.
 
@@ -46,169 +49,100 @@ not-too-many k h = rw (le-ltb 16 k h)
 pub entries-small : (k : ℕ) → k ≤ 16 → k * k < 2 ^ 64
 entries-small k h = omega (arith, square k h)
 
-pub none-taken : (n : ℕ) → 256 < n → 0 ≡ fewer n
-none-taken n h = rw (lt-ltb 256 n h)
-
-pub all-taken : (n : ℕ) → n ≤ 256 → n ≡ fewer n
-all-taken n h = rw (le-ltb 256 n h)
-
-few-taken : (n k : ℕ) → k ≡ fewer n → k ≤ 256
-few-taken n k f = elim (decLe n 256) [ yes h ↦ omega (arith, f ∙ sym (all-taken n h)) | no h ↦ omega (arith, f ∙ sym (none-taken n (omega arith))) ]
-
--- 12 refuses more entries than 16 tasks have, and none.
-many-entries : (a : Start) → 256 < length (a .clocks) → refuses12 a ≡ true
-unfolding refuses12
-many-entries a h =
-    elim (decLt 16 (a .tasks)) [
-      | yes l ↦ many-tasks a l
-      | no l ↦ rw (ne-eqb (length (a .clocks)) (a .tasks * a .tasks) (λ e. omega (arith, square (a .tasks) (omega arith))), or-true)
-    ]
-
-no-entries : (a : Start) → length (a .clocks) ≡ 0 → refuses12 a ≡ true
-unfolding refuses12
-no-entries a e = go (a .tasks) refl
-  where
-    go : (k : ℕ) → a .tasks ≡ k → refuses12 a ≡ true
-    go zero q = rw q
-    go (suc k) q =
-        let m : 1 * 1 ≤ suc k * suc k = mul-le-mul {n₁ = 1} {m₁ = 1} (omega arith) (omega arith) in
-        let d : length (a .clocks) ≡ suc k * suc k → ⊥ = λ z. omega arith in
-        rw (q, ne-eqb (length (a .clocks)) (suc k * suc k) d, or-true)
-
--- Clocks that are all zero.
-take-zeros : (n m : ℕ) → n ≤ m → take {A = ℕ} n (replicate m 0) ≡ replicate n 0
-take-zeros zero m h = refl
-take-zeros (suc n) zero h = absurd (omega arith)
-take-zeros (suc n) (suc m) h = ap (λ (l : List ℕ). 0 ∷ l) (take-zeros n m (omega arith))
-
 pub entries-few : (k : ℕ) → entriesOf k ≤ 256
 entries-few k = elim (decLt 16 k) [ yes h ↦ rw (lt-ltb 16 k h) (omega arith) | no h ↦ rw (le-ltb 16 k (omega arith)) (square k (omega arith)) ]
 
-pub zero-start : (a : First) (n : ℕ) → n ≡ entriesOf (a .tasks) → start (saidWith a (take n (replicate 256 0))) ≡ start (startSaid a)
-zero-start a n e =
+-- the product of any number of tasks with itself
+pub product-fits : (k : ℕ) → k < 2 ^ 32 → k * k < 2 ^ 64
+product-fits k h =
+    let l : k ≤ 4294967295 = omega arith in
+    omega (arith, mul-le-mul l l)
+
+-- A start with clocks of which the words hold those of up to 16 tasks: 12 refuses more tasks whatever their clocks.
+same-begun : (a : First) (cs starts : List ℕ) → (a .tasks ≤ 16 → take (a .tasks * a .tasks) starts ≡ cs) → start (startRead a starts) ≡ start (startSaid a cs)
+same-begun a cs starts kept =
     let k = a .tasks in
     elim (decLt 16 k) [
-      | yes h ↦ refused-start (saidWith a (take n (replicate 256 0))) (many-tasks _ h) ∙ sym (refused-start (startSaid a) (many-tasks _ h))
-      | no h ↦
-          let q : n ≡ k * k = e ∙ sym (not-too-many k (omega arith)) in
-          rw (q, take-zeros (k * k) 256 (square k (omega arith)))
+      | yes h ↦ refused-start (startRead a starts) (many-tasks _ h) ∙ sym (refused-start (startSaid a cs) (many-tasks _ h))
+      | no h ↦ rw (← not-too-many k (omega arith), kept (omega arith))
     ]
 
--- Clocks that were read.
-module _ (a : First) (cs starts : List ℕ) (n k : ℕ) (kept : n ≤ 256 → take n starts ≡ cs) (long : 256 < n → 256 < length cs) (f : k ≡ fewer n) where
-  read-start : start (saidWith a (take k starts)) ≡ start (saidWith a cs)
-  read-start =
-      elim (decLe n 256) [
-        | yes h ↦
-            let q : k ≡ n = f ∙ sym (all-taken n h) in
-            rw (q, kept h)
-        | no h ↦
-            let q : k ≡ 0 = f ∙ sym (none-taken n (omega arith)) in
-            rw q (refused-start (saidWith a []) (no-entries (saidWith a []) refl) ∙ sym (refused-start (saidWith a cs) (many-entries (saidWith a cs) (long (omega arith)))))
-      ]
+-- clocks that were spawned
+pub same-spawned : (a : First) (starts : List ℕ) → starts ≡ spawnedIn (a .tasks) → start (startRead a starts) ≡ start (startSaid a (spawned (a .tasks)))
+same-spawned a starts e = same-begun a (spawned (a .tasks)) starts (λ h. rw e (spawned-taken (a .tasks) h))
 
-clocked-some : (fs : List (List ℕ)) (f : List ℕ) (gs : List (List ℕ)) (a : Start) → fs ≡ f ∷ gs → clockedBy fs a ≡ (numbersOf fs >>= λ cs. some (withClocks cs a))
-unfolding clockedBy
-clocked-some fs f gs a e = rw e
+reads-spawned : (a : First) (starts : List ℕ) → starts ≡ spawnedIn (a .tasks) → ReadsStart (some (startSaid a (spawned (a .tasks)))) a starts
+reads-spawned a starts e =
+    record { start = startSaid a (spawned (a .tasks)); says = refl; same = same-spawned a starts e; sized = spawned-sized (a .tasks) starts e }
 
--- behind the four fields of document 01
-module _ (a : First) (line : List ℕ) (e next : ℕ) where
-  pub clocked-none : (n : ℕ) (zs : List ℕ) → length line ≤ e → n ≡ entriesOf (a .tasks) → zs ≡ replicate 256 0 → Clocked a line e next (Is a n next) zs
-  unfolding clockedBy
-  clocked-none n zs h q z =
-      rw (le-leb (length line) e h)
-      (refl, record { start = startSaid a; says = refl; same = rw z (zero-start a n q); few = rw q (entries-few (a .tasks)); there = rw (z, length-replicate {A = ℕ} 256 0, q) (entries-few (a .tasks)) })
+-- Clocks that were given: as many entries as the tasks have, or the line says nothing.
+all-given : (k : ℕ) (cs : List ℕ) (t : Bool) → 0 < length cs → eqb (length cs) (k * k) ≡ t → clocksSaid k cs ≡ elim t [ true ↦ some cs | false ↦ none ]
+all-given k [] t h e = absurd (omega arith)
+all-given k (c ∷ cs) true h e = rw e
+all-given k (c ∷ cs) false h e = rw e
 
-  module _ (h : e < length line) (r : Clocks) (starts : List ℕ) (is : ClocksTo line (e + 1) r starts) where
-    by-numbers : clockedBy (fieldsBehind line e) (startSaid a) ≡ (numbersOf (fields (drop (e + 1) line)) >>= λ cs. some (withClocks cs (startSaid a)))
-    by-numbers = rw (lt-leb (length line) e h) (clocked-some (fields (drop (e + 1) line)) _ _ (startSaid a) (parts-front space (drop (e + 1) line)))
+module _ (a : First) (line : List ℕ) (at next : ℕ) (r : Clocks) (starts : List ℕ) (is : ClocksTo line at r starts) where
+  module _ (n : ℕ) (q : r ≡ Are n) where
+    read : Reads (numbersOf (fields (drop at line))) n starts
+    read = subst (λ (x : Clocks). ClocksTo line at x starts) q is
 
-    pub clocked-read : (n k : ℕ) → r ≡ Are n → k ≡ fewer n → Clocked a line e next (Is a k next) starts
-    clocked-read n k q f =
-        let p : Reads (numbersOf (fields (drop (e + 1) line))) n starts = subst (λ (x : Clocks). ClocksTo line (e + 1) x starts) q is in (
+    told : (t : Bool) → t ≡ eqb n (a .tasks * a .tasks) → opened line (Given a at) ≡ elim t [ true ↦ some (startSaid a (read .numbers)) | false ↦ none ]
+    told t e = rw (read .says, all-given (a .tasks) (read .numbers) t (omega (arith, read .some-there, read .count)) (ap (λ (m : ℕ). eqb m (a .tasks * a .tasks)) (sym (read .count)) ∙ sym e)) (by-test t)
+      where
+        by-test : (t : Bool) → (elim t [ true ↦ some (read .numbers) | false ↦ none ] >>= λ cs. some (startSaid a cs)) ≡ elim t [ true ↦ some (startSaid a (read .numbers)) | false ↦ none ]
+        by-test true = refl
+        by-test false = refl
+
+    pub given-all : (t : Bool) → t ≡ eqb n (a .tasks * a .tasks) → t ≡ true → SaysStart (opened line (Given a at)) next (Is a next) starts
+    given-all t e b =
+        let m : n ≡ a .tasks * a .tasks = eqb-true n (a .tasks * a .tasks) (sym e ∙ b) in (
           refl,
           record {
-            start = saidWith a (p .numbers);
-            says = by-numbers ∙ rw (p .says);
-            same = read-start a (p .numbers) starts n k (p .kept) (λ l. omega (arith, p .count)) f;
-            few = few-taken n k f;
-            there = omega (arith, few-taken n k f, p .sized);
+            start = startSaid a (read .numbers);
+            says = told true (sym b ∙ e);
+            same = same-begun a (read .numbers) starts (λ h. rw (← m) (read .kept (omega (arith, m, square (a .tasks) h))));
+            sized = read .sized;
           },
         )
 
-    pub clocked-unread : r ≡ Unread → Clocked a line e next Bad starts
-    clocked-unread q = by-numbers ∙ rw (subst (λ (x : Clocks). ClocksTo line (e + 1) x starts) q is)
+    pub given-others : (t : Bool) → t ≡ eqb n (a .tasks * a .tasks) → t ≡ false → SaysStart (opened line (Given a at)) next Bad starts
+    given-others t e b = told false (sym b ∙ e)
+
+  pub given-unread : r ≡ Unread → SaysStart (opened line (Given a at)) next Bad starts
+  given-unread q = rw (subst (λ (x : Clocks). ClocksTo line at x starts) q is)
 
 -- What is read names the maker within a byte, which makes no difference.
-named-clocks : (fs : List (List ℕ)) (a : Start) → clockedBy fs (startNamed a) ≡ Option·map startNamed (clockedBy fs a)
-unfolding clockedBy
-named-clocks [] a = refl
-named-clocks (f ∷ fs) a = go (numbersOf (f ∷ fs))
-  where
-    go : (o : Option (List ℕ)) → (o >>= λ cs. some (withClocks cs (startNamed a))) ≡ Option·map startNamed (o >>= λ cs. some (withClocks cs a))
-    go none = refl
-    go (some cs) = refl
+named : (o : Option Start) (next : ℕ) (res : FirstLine) (starts : List ℕ) → SaysStart (startWithin o) next res starts → SaysStart o next res starts
+named none next (Is first next′) starts s = absurd (said-not none (s .1 .start) (s .1 .says) refl)
+named (some a) next (Is first next′) starts s =
+    let r = s .1 in
+    let q = Option·some-injective (startNamed a) (r .start) (r .says) in
+    (s .0, record { start = a; says = refl; same = r .same ∙ ap start (sym q) ∙ start-within a; sized = r .sized })
+named none next Bad starts s = refl
+named (some a) next Bad starts s = absurd (said-not (some (startNamed a)) (startNamed a) refl s)
+named o next Nothing starts s = s
 
-orElse : Start → Option Start → Start
-orElse a none = a
-orElse a (some b) = b
+-- What a line says, by what was opened.
+module _ (line : List ℕ) (r : Opening) (is : Opens line (startWithin (startOf line)) r) (next : ℕ) (starts : List ℕ) where
+  as-opened : (x : Opening) (res : FirstLine) → r ≡ x → SaysStart (opened line x) next res starts → SaysStart (startOf line) next res starts
+  as-opened x res e s =
+      named (startOf line) next res starts (subst (λ (o : Option Start). SaysStart o next res starts) (ap (opened line) (sym e) ∙ is .says) s)
 
-named-read : (o : Option Start) (first : First) (entries : ℕ) (starts : List ℕ) → StartRead (Option·map startNamed o) first entries starts → StartRead o first entries starts
-unfolding orElse
-named-read none first entries starts r = let p = r .says in let z : _≡_ {A = ℕ} 0 1 = cc in absurd (omega arith)
-named-read (some a) first entries starts r =
-    let q : startNamed a ≡ r .start = ap (orElse (r .start)) (r .says) in
-    record { start = a; says = refl; same = r .same ∙ ap start (sym q) ∙ start-within a; few = r .few; there = r .there }
+  pub given-within : (a : First) (at : ℕ) → r ≡ Given a at → at ≤ length line
+  given-within a at e = subst (PlaceWithin line) e (is .within)
 
-named-none : (o : Option Start) → Option·map startNamed o ≡ none → o ≡ none
-named-none none e = refl
-named-none (some a) e = let z : _≡_ {A = ℕ} 0 1 = cc in absurd (omega arith)
+  pub start-spawned : (a : First) → r ≡ Spawned a → starts ≡ spawnedIn (a .tasks) → SaysStart (startOf line) next (Is a next) starts
+  start-spawned a e w = as-opened (Spawned a) (Is a next) e (refl, reads-spawned a starts w)
 
-module _ (clocks : Bool) (line : List ℕ) (e next : ℕ) (ends : e ≡ plainEnd clocks line) where
-  -- the fields of document 01, and the clocks behind them
-  by-fields : (b : Bool) → clocks ≡ b → startAs b line ≡ (startOf (take e line) >>= clockedBy (fieldsBehind line e))
-  unfolding clockedBy
-  by-fields false q =
-      let l : e ≡ length line = ends ∙ ap (λ (x : Bool). plainEnd x line) q in
-      rw (l, take-length line, no-others line) (sym (all (startOf line)))
-    where
-      all : (o : Option Start) → (o >>= clockedBy []) ≡ o
-      all none = refl
-      all (some a) = refl
-  by-fields true q =
-      let l : e ≡ plainEnd true line = ends ∙ ap (λ (x : Bool). plainEnd x line) q in
-      rw (four-fields line e l, ← other-fields line e l)
+  pub start-given : (a : First) (at : ℕ) (res : FirstLine) → r ≡ Given a at → SaysStart (opened line (Given a at)) next res starts → SaysStart (startOf line) next res starts
+  start-given a at res e s = as-opened (Given a at) res e s
 
-  module _ (p : Opening) (is : opened p ≡ startWithin (startOf (take e line))) (starts : List ℕ) where
-    pub start-none : p ≡ Shut → SaysStart clocks line next Bad starts
-    start-none q =
-        by-fields clocks refl ∙ rw (named-none (startOf (take e line)) (sym is ∙ ap opened q))
-
-    by-start : (o : Option Start) → startOf (take e line) ≡ o → (a : First) → some (startSaid a) ≡ startWithin o → (x : FirstLine) → Clocked a line e next x starts → SaysStart clocks line next x starts
-    unfolding orElse
-    by-start none s a q x c = let z : _≡_ {A = ℕ} 0 1 = cc in absurd (omega arith)
-    by-start (some b) s a q x c = go x c
-      where
-        same : startSaid a ≡ startNamed b
-        same = ap (orElse b) q
-
-        said-so : startAs clocks line ≡ clockedBy (fieldsBehind line e) b
-        said-so = by-fields clocks refl ∙ rw s
-
-        named : clockedBy (fieldsBehind line e) (startSaid a) ≡ Option·map startNamed (clockedBy (fieldsBehind line e) b)
-        named = ap (clockedBy (fieldsBehind line e)) same ∙ named-clocks (fieldsBehind line e) b
-
-        go : (x : FirstLine) → Clocked a line e next x starts → SaysStart clocks line next x starts
-        go (Is first entries next′) c = (c .0, rw (← said-so) at (named-read (clockedBy (fieldsBehind line e) b) first entries starts (rw named at (c .1))))
-        go Bad c = said-so ∙ named-none (clockedBy (fieldsBehind line e) b) (sym named ∙ c)
-        go Nothing c = c
-
-    pub start-some : (a : First) (res : FirstLine) → p ≡ Opens a → Clocked a line e next res starts → SaysStart clocks line next res starts
-    start-some a res q c = by-start (startOf (take e line)) refl a (sym (ap opened q) ∙ is) res c
+  pub start-none : r ≡ NoStart → SaysStart (startOf line) next Bad starts
+  start-none e = as-opened NoStart Bad e refl
 
 -- The first line of a script.
-module _ (clocks : Bool) (script : List ℕ) (l : NextLine) (is : NextIs script 0 l) (starts : List ℕ) where
-  pub first-ended : (e : ℕ) (res : FirstLine) → l ≡ Ended e → SaysStart clocks (take e script) (e + 1) res starts → SaysFirst clocks script res starts
+module _ (script : List ℕ) (l : NextLine) (is : NextIs script 0 l) (starts : List ℕ) where
+  pub first-ended : (e : ℕ) (res : FirstLine) → l ≡ Ended e → SaysStart (startOf (take e script)) (e + 1) res starts → SaysFirst script res starts
   first-ended e res q s = go res s
     where
       w : (0 ≤ e) × (e < length script)
@@ -223,15 +157,15 @@ module _ (clocks : Bool) (script : List ℕ) (l : NextLine) (is : NextIs script 
       n : length (take e script) ≡ e
       n = length-take-le e script (omega (arith, w .1))
 
-      go : (x : FirstLine) → SaysStart clocks (take e script) (e + 1) x starts → SaysFirst clocks script x starts
-      go (Is first entries next) s =
+      go : (x : FirstLine) → SaysStart (startOf (take e script)) (e + 1) x starts → SaysFirst script x starts
+      go (Is first next) s =
           record { line = record { content = take e script; ended = true }; shows = rw (s .0) shown; read = s .1; bytes = omega (arith, s .0, n); within = omega (arith, s .0, w .1) }
       go Bad s = record { line = record { content = take e script; ended = true }; behind = lines (drop (e + 1) script); shows = shown; says = s; some-bytes = omega (arith, w .1) }
       go Nothing s = absurd s
 
-  pub first-unended : l ≡ Unended → SaysFirst clocks script Bad starts
+  pub first-unended : l ≡ Unended → SaysFirst script Bad starts
   first-unended q =
       record { line = record { content = script; ended = false }; behind = []; shows = rw q at is .shows; says = refl; some-bytes = subst (λ (x : NextLine). Within script 0 x) q (is .within) }
 
-  pub first-none : l ≡ End → SaysFirst clocks script Nothing starts
+  pub first-none : l ≡ End → SaysFirst script Nothing starts
   first-none q = rw q at is .shows

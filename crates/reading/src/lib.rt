@@ -1,9 +1,13 @@
 // What the lines of a script say, one by one: the first line a start, each other line a step. Whoever goes through a script reads it here.
 ghost use mathlib.Core.Path.{_≡_};
-ghost use Prim.Native.Nat.{_+_, _≤_, _<_, min};
+ghost use Prim.Native.Nat.{_+_, _*_, _^_, _≤_, _<_};
+ghost use lib.Dec.{eqb};
 ghost use lib.ListN.{length, set};
+ghost use Rattle.rules.specs.Script.{startOf};
 ghost use Rattle.script.specs.declared.Parsed.the-variants.{Bad};
-ghost use Rattle.reading.specs.Starts.{entriesOf, fewer, NextEnd, plainEnd, ClocksTo, Clocked, SaysStart, SaysFirst};
+ghost use Rattle.script.specs.declared.Opening.the-variants.{Given};
+ghost use Rattle.script.specs.Opening.{opened};
+ghost use Rattle.reading.specs.Starts.{entriesOf, ClocksTo, SaysStart, SaysFirst};
 ghost use Rattle.reading.specs.Steps.{SaysTo, SaysAt};
 use script::First;
 use script::Opening;
@@ -17,18 +21,14 @@ pub struct ReadLine {
     pub next: usize,
 }
 
-// What the first line says: a start, how many entries its clocks have, and where the next line starts; or nothing; or that there is none.
+// What the first line says: a start, and where the next line starts; or nothing; or that there is none.
 pub enum FirstLine {
-    Is {
-        first: First,
-        entries: usize,
-        next: usize,
-    },
+    Is { first: First, next: usize },
     Bad,
     Nothing,
 }
 
-// What was read of starting clocks: how many entries, where 257 stands for more; or that one of them is no number.
+// What was read of starting clocks: how many entries, or that one of them is no number.
 pub enum Clocks {
     Are(usize),
     Bad,
@@ -67,7 +67,7 @@ pub fn read_line(script: &[u8], at: usize) -> ReadLine
 }
 
 // ---- starts
-// How many entries the starting clocks of so many tasks have; 12 refuses more than 16 tasks whatever their clocks.
+// How many entries the starting clocks of so many tasks have; none where 12 refuses so many tasks whatever their clocks.
 pub fn entries_of(tasks: u32) -> usize
     ensures { λ r. ⌜ r ≡ entriesOf tasks ⌝ }
 {
@@ -78,30 +78,27 @@ pub fn entries_of(tasks: u32) -> usize
     n * n
 }
 
-// As many entries as were read, or none where they are more than any tasks have: 12 refuses both.
-fn fewest(n: usize) -> usize
-    ensures { λ r. ⌜ r ≡ fewer n ⌝ }
+// Whether so many entries are all of them: 64 bits hold the product for any number of tasks.
+fn are_all(n: usize, tasks: u32) -> bool
+    ensures { λ r. ⌜ r ≡ eqb n (tasks * tasks) ⌝ }
 {
-    if 256 < n { 0 } else { n }
+    let k = tasks as usize;
+    n == k * k
 }
 
-// One entry more; 257 are too many, and stay so.
-fn one_more(n: usize) -> usize
-    ensures { λ r. ⌜ r ≡ min (n + 1) 257 ⌝ }
+// The entry behind n others is kept where there is room for it, and counted.
+fn keep(starts: &mut [u32], n: usize, x: u32) -> usize
+    requires { ⌜ n + 1 < 2 ^ 64 ⌝ }
+    ensures { λ r. ⌜ (now (starts .exit) ≡ set (now (starts .entry)) n x) × (r ≡ n + 1) ⌝ }
 {
-    if n < 257 { n + 1 } else { 257 }
-}
-
-// An entry is kept where there is room for it.
-fn keep(starts: &mut [u32], i: usize, x: u32)
-    ensures { λ _. ⌜ now (starts .exit) ≡ set (now (starts .entry)) i x ⌝ }
-{
-    if i < starts.len() {
-        starts[i] = x;
+    if starts.len() <= n {
+        return n + 1;
     }
+    starts[n] = x;
+    n + 1
 }
 
-// The numbers of a line from a place on.
+// The numbers of a line from a place on, every one of them counted.
 fn read_clocks(line: &[u8], from: usize, starts: &mut [u32]) -> Clocks
     requires { ⌜ (from ≤ length (now line)) × (length (now starts) ≡ 256) ⌝ }
     ensures { λ r. ⌜ ClocksTo (now (line .entry)) from r (now (starts .exit)) ⌝ }
@@ -110,13 +107,9 @@ fn read_clocks(line: &[u8], from: usize, starts: &mut [u32]) -> Clocks
     let mut n: usize = 0;
     loop {
         match text::number_at(line, at) {
-            Reading::Last(x) => {
-                keep(starts, n, x);
-                return Clocks::Are(one_more(n));
-            }
+            Reading::Last(x) => return Clocks::Are(keep(starts, n, x)),
             Reading::Then(x, next) => {
-                keep(starts, n, x);
-                n = one_more(n);
+                n = keep(starts, n, x);
                 at = next;
             }
             Reading::Other => return Clocks::Bad,
@@ -124,73 +117,48 @@ fn read_clocks(line: &[u8], from: usize, starts: &mut [u32]) -> Clocks
     }
 }
 
-// Where the field behind the one that ends at e ends; the line's end where there is none.
-fn next_end(line: &[u8], e: usize) -> usize
-    ensures { λ r. ⌜ NextEnd (now (line .entry)) e r ⌝ }
-{
-    if line.len() <= e {
-        return line.len();
-    }
-    text::find(line, e + 1, b' ')
-}
-
-// Where the fields of document 01's first line end: with the line, or with its fourth field where starting clocks may stand behind.
-fn plain_end(line: &[u8], clocks: bool) -> usize
-    ensures { λ r. ⌜ r ≡ plainEnd clocks (now (line .entry)) ⌝ }
-{
-    if clocks {
-        let first = text::find(line, 0, b' ');
-        return next_end(line, next_end(line, next_end(line, first)));
-    }
-    line.len()
-}
-
-// A start with the clocks that stand in a line behind the place e: all zero where none do.
+// A start with the clocks that stand in a line from a place on: all of them, or the line says nothing.
 fn with_clocks(
     first: First,
     line: &[u8],
-    e: usize,
+    at: usize,
     next: usize,
     starts: &mut [u32; 256],
 ) -> FirstLine
-    ensures { λ r. ⌜ Clocked first (now (line .entry)) e next r (now (starts .exit)) ⌝ }
+    requires { ⌜ at ≤ length (now line) ⌝ }
+    ensures { λ r. ⌜ SaysStart (opened (now (line .entry)) (Given first at)) next r (now (starts .exit)) ⌝ }
 {
-    if line.len() <= e {
-        *starts = [0u32; 256];
-        return FirstLine::Is {
-            first,
-            entries: entries_of(first.tasks),
-            next,
-        };
-    }
-    match read_clocks(line, e + 1, starts) {
-        Clocks::Are(n) => FirstLine::Is {
-            first,
-            entries: fewest(n),
-            next,
-        },
+    match read_clocks(line, at, starts) {
+        Clocks::Are(n) => {
+            if are_all(n, first.tasks) {
+                return FirstLine::Is { first, next };
+            }
+            FirstLine::Bad
+        }
         Clocks::Bad => FirstLine::Bad,
     }
 }
 
 // What a first line says that is ended, before the place of the next.
-fn read_start(line: &[u8], next: usize, clocks: bool, starts: &mut [u32; 256]) -> FirstLine
-    ensures { λ r. ⌜ SaysStart clocks (now (line .entry)) next r (now (starts .exit)) ⌝ }
+fn read_start(line: &[u8], next: usize, starts: &mut [u32; 256]) -> FirstLine
+    ensures { λ r. ⌜ SaysStart (startOf (now (line .entry))) next r (now (starts .exit)) ⌝ }
 {
-    let e = plain_end(line, clocks);
-    match script::start_of(&line[..e]) {
-        Opening::Is(first) => with_clocks(first, line, e, next, starts),
+    match script::start_of(line) {
+        Opening::Spawned(first) => {
+            spawning::spawn(first.tasks, starts);
+            FirstLine::Is { first, next }
+        }
+        Opening::Given(first, at) => with_clocks(first, line, at, next, starts),
         Opening::Bad => FirstLine::Bad,
     }
 }
 
-// What the first line says; its starting clocks stand in `starts`, as many entries as are answered. `clocks` lets them stand in the line,
-// row by row behind the tasks: ours, for the comparison, and not document 01's.
-pub fn read_first(script: &[u8], clocks: bool, starts: &mut [u32; 256]) -> FirstLine
-    ensures { λ r. ⌜ SaysFirst clocks (now (script .entry)) r (now (starts .exit)) ⌝ }
+// What the first line says; the starting clocks of up to 16 tasks, given or spawned, stand in `starts` from its first word on.
+pub fn read_first(script: &[u8], starts: &mut [u32; 256]) -> FirstLine
+    ensures { λ r. ⌜ SaysFirst (now (script .entry)) r (now (starts .exit)) ⌝ }
 {
     match lines::line_at(script, 0) {
-        NextLine::Ended(e) => read_start(&script[..e], e + 1, clocks, starts),
+        NextLine::Ended(e) => read_start(&script[..e], e + 1, starts),
         NextLine::Unended => FirstLine::Bad,
         NextLine::End => FirstLine::Nothing,
     }

@@ -1,5 +1,4 @@
-// Runs the recorded scripts, NNN.script, and holds the whole state after each line to what the Rust did, NNN.state. A script whose first
-// line has starting clocks is NNN.clocks.
+// Runs the recorded scripts, NNN.script, and holds the whole state after each line to what the Rust did, NNN.state.
 use crate::bytes::byte_at;
 use crate::bytes::part;
 use crate::bytes::write;
@@ -131,16 +130,16 @@ fn read(number: u32, ending: &[u8], buf: &mut [u8]) -> usize {
     m
 }
 
-// The script of a number and an ending, if there is one.
-fn replay(number: u32, ending: &[u8], clocked: bool, t: Tally) -> Tally {
+// The script of a number, if there is one.
+fn replay(number: u32, t: Tally) -> Tally {
     let mut script = io::large_buffer();
     let mut want = [0u8; walk::ROOM];
     let mut got = [0u8; walk::ROOM];
-    let k = read(number, ending, &mut script);
+    let k = read(number, b".script", &mut script);
     if MISSING <= k {
         return t;
     }
-    let n = walk::run(part(&script, 0, k), clocked, &mut got, walk::ROOM);
+    let n = walk::run(part(&script, 0, k), &mut got, walk::ROOM);
     let m = read(number, b".state", &mut want);
     compare(number, part(&got, 0, n), part(&want, 0, m), t)
 }
@@ -156,8 +155,7 @@ fn replay_all() -> Tally {
     };
     let mut number: u32 = 0;
     while number < 1000 {
-        t = replay(number, b".script", false, t);
-        t = replay(number, b".clocks", true, t);
+        t = replay(number, t);
         number += 1;
     }
     t

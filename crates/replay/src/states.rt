@@ -1,6 +1,5 @@
 // Prints the whole state after each line, as `oracle --state` does: of the script on standard input, or of many. Before each of many stand
-// the two bytes of its length, the high one first, and behind what is printed for it a line `end`; and a first line may have starting
-// clocks, as for `oracle --state --clocks`.
+// the two bytes of its length, the high one first, and behind what is printed for it a line `end`.
 use crate::bytes::part;
 use crate::bytes::write;
 use crate::walk;
@@ -15,7 +14,7 @@ pub fn run_one() {
         write(b"long\n");
         return;
     }
-    walk::print(part(&script, 0, n), false);
+    walk::print(part(&script, 0, n));
 }
 
 fn length_of(high: u8, low: u8) -> usize {
@@ -49,7 +48,7 @@ fn run_next() -> bool {
     if MOST <= n {
         return false;
     }
-    walk::print(part(&script, 0, n), true);
+    walk::print(part(&script, 0, n));
     write(b"end\n");
     true
 }

@@ -129,7 +129,7 @@ fn run_fresh(script: &[u8], from: usize, buf: &mut [u8], limit: usize, o: Opened
 }
 
 // What the first line comes to.
-fn begin(script: &[u8], clocked: bool) -> Opened {
+fn begin(script: &[u8]) -> Opened {
     let mut slots = [0u32; 320];
     let mut tasks = [0u32; 32];
     let mut sizes = [0u32; 64];
@@ -139,7 +139,6 @@ fn begin(script: &[u8], clocked: bool) -> Opened {
     let mut clocks = [0u32; 256];
     let begun = walking::begin(
         script,
-        clocked,
         &mut slots,
         &mut tasks,
         &mut sizes,
@@ -162,8 +161,8 @@ fn begin(script: &[u8], clocked: bool) -> Opened {
 }
 
 // The text for a script; where it ends in a buffer. Whenever the buffer is full to the limit, it is written out first.
-pub fn run(script: &[u8], clocked: bool, buf: &mut [u8], limit: usize) -> usize {
-    let o = begin(script, clocked);
+pub fn run(script: &[u8], buf: &mut [u8], limit: usize) -> usize {
+    let o = begin(script);
     let begun = o.begun;
     let how = begun.how;
     match how {
@@ -175,8 +174,8 @@ pub fn run(script: &[u8], clocked: bool, buf: &mut [u8], limit: usize) -> usize 
 }
 
 // The text for a script is written out.
-pub fn print(script: &[u8], clocked: bool) {
+pub fn print(script: &[u8]) {
     let mut buf = [0u8; ROOM];
-    let end = run(script, clocked, &mut buf, 65536);
+    let end = run(script, &mut buf, 65536);
     bytes::write(bytes::part(&buf, 0, end));
 }

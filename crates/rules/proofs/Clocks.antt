@@ -15,6 +15,11 @@ unfoldable pub _⊑_ : Clock → Clock → Type 0
 (x ∷ c) ⊑ [] = ⊥
 (x ∷ c) ⊑ (y ∷ d) = (x ≤ y) × (c ⊑ d)
 
+pub at-most-itself : (c : Clock) → c ⊑ c
+unfolding _⊑_
+at-most-itself [] = tt
+at-most-itself (x ∷ c) = (le-refl x, at-most-itself c)
+
 -- a join is as wide as its first clock; so is a tick; and the empty clock has its width
 pub length-join : (c d : Clock) → length (join c d) ≡ length c
 unfolding join

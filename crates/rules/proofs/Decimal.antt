@@ -1,16 +1,20 @@
--- Decimal numbers: the last digit of a number stands behind those of its tenth, and reading a printed number gives it back.
+-- Decimal numbers: the last digit of a number stands behind those of its tenth; reading a printed number gives it back, and so does printing
+-- one that was read.
 use Prim.Native.Nat.{ℕ, zero, suc, _+_, _*_, _-_, _/_, _%_, _^_, _≤_, _<_}
 use native.Mathlib.Nat.{div-add-mod'}
 use native.Mathlib.Decide.{decLt}
 use native.Mathlib.Omega.{arith}
 use mathlib.Core.Path.{_≡_, refl, ap, sym, _∙_}
-use mathlib.Core.Bool.{true}
+use mathlib.Core.Bool.{true, _&&_, false≢true}
 use mathlib.Core.List.{List, [], _∷_, _++_, append-assoc, append-nil}
 use mathlib.Core.Option.{some}
+use lib.Dec.{leb, eqb}
 use lib.ListN.{length, length-append}
-use borrow.Author.Tests.{lt-ltb, le-ltb, le-leb, ne-eqb}
+use borrow.Author.Tests.{leb-true, eqb-false, not-true, lt-ltb, le-ltb, le-leb, ne-eqb}
 use Rattle.rules.specs.Sizes.{largest}
-use Rattle.rules.specs.Text.{allDigits, noLeadingZero, valueFrom, numberOf, lastDigits, digits}
+use Rattle.rules.specs.Text.{space, before, isDigit, allDigits, noLeadingZero, valueFrom, numberOf, lastDigits, digits}
+use Rattle.rules.proofs.Bools.{both}
+use Rattle.rules.proofs.Options.{said-if}
 
 -- Printing.
 
@@ -119,3 +123,75 @@ all-of-digits n = rw (← append-nil (digits n)) (digits-digits n [])
 pub read-printed : (n : ℕ) → n ≤ largest → numberOf (digits n) ≡ some n
 unfolding numberOf
 read-printed n h = rw (digits-plain n, all-of-digits n, value-of-digits n, le-leb n largest h)
+
+is-digit : (c : ℕ) → isDigit c ≡ true → (48 ≤ c) × (c ≤ 57)
+is-digit c e = let s = both (leb 48 c) (leb c 57) e in (leb-true 48 c (s .0), leb-true c 57 (s .1))
+
+-- Digits have no space among them.
+no-space : (f : List ℕ) → allDigits f ≡ true → before space f ≡ f
+unfolding allDigits before
+no-space [] a = refl
+no-space (c ∷ cs) a =
+    let b = both (isDigit c) (allDigits cs) a in
+    let d = is-digit c (b .0) in
+    rw (ne-eqb c space (λ e. omega arith)) (ap (λ (ds : List ℕ). c ∷ ds) (no-space cs (b .1)))
+
+pub digits-free : (n : ℕ) → before space (digits n) ≡ digits n
+digits-free n = no-space (digits n) (all-of-digits n)
+
+-- A field that says a number.
+
+-- what numberOf asks of a field, and the number that it says
+record Number (f : List ℕ) (n : ℕ) : Type 0 where
+  plain : noLeadingZero f ≡ true
+  all : allDigits f ≡ true
+  fits : n ≤ largest
+  value : valueFrom 0 f ≡ n
+
+number : (f : List ℕ) (n : ℕ) → numberOf f ≡ some n → Number f n
+unfolding numberOf
+number f n e =
+    let s = said-if (noLeadingZero f && allDigits f && leb (valueFrom 0 f) largest) (valueFrom 0 f) n e in
+    let t = both (noLeadingZero f && allDigits f) (leb (valueFrom 0 f) largest) (s .0) in
+    let u = both (noLeadingZero f) (allDigits f) (t .0) in
+    record { plain = u .0; all = u .1; fits = omega (arith, leb-true (valueFrom 0 f) largest (t .1)); value = s .1 }
+
+pub read-fits : (f : List ℕ) (n : ℕ) → numberOf f ≡ some n → n ≤ largest
+read-fits f n e = number f n e .fits
+
+digits-next : (n d : ℕ) → 0 < n → d < 10 → digits (n * 10 + d) ≡ digits n ++ (48 + d) ∷ []
+digits-next n d h l =
+    let q : (n * 10 + d) / 10 ≡ n = omega arith in
+    let r : (n * 10 + d) % 10 ≡ d = omega arith in
+    digits-large (n * 10 + d) (omega arith) ∙ rw (q, r)
+
+-- digits behind those of a number are the digits of what they say together
+digits-behind : (n : ℕ) (cs : List ℕ) → 0 < n → allDigits cs ≡ true → digits n ++ cs ≡ digits (valueFrom n cs)
+unfolding allDigits valueFrom
+digits-behind n [] h a = append-nil (digits n)
+digits-behind n (c ∷ cs) h a =
+    let b = both (isDigit c) (allDigits cs) a in
+    let d = is-digit c (b .0) in
+    let e : 48 + (c - 48) ≡ c = omega arith in
+    let s : digits (n * 10 + (c - 48)) ≡ digits n ++ c ∷ [] = digits-next n (c - 48) h (omega arith) ∙ rw e in
+    sym (append-assoc (digits n) (c ∷ []) cs) ∙ ap (λ (ds : List ℕ). ds ++ cs) (sym s) ∙ digits-behind (n * 10 + (c - 48)) cs (omega arith) (b .1)
+
+digit-alone : (c : ℕ) → isDigit c ≡ true → digits (0 * 10 + (c - 48)) ≡ c ∷ []
+digit-alone c a =
+    let d = is-digit c a in
+    let e : 48 + (0 * 10 + (c - 48)) ≡ c = omega arith in
+    digits-small (0 * 10 + (c - 48)) (omega arith) ∙ rw e
+
+digits-of-value : (f : List ℕ) → noLeadingZero f ≡ true → allDigits f ≡ true → f ≡ digits (valueFrom 0 f)
+unfolding noLeadingZero allDigits valueFrom
+digits-of-value [] p a = absurd (false≢true p)
+digits-of-value (c ∷ []) p a = sym (digit-alone c (both (isDigit c) true a .0))
+digits-of-value (c ∷ d ∷ cs) p a =
+    let b = both (isDigit c) (allDigits (d ∷ cs)) a in
+    let n : c ≡ 48 → ⊥ = eqb-false c 48 (not-true (eqb c 48) p) in
+    let h : 0 < 0 * 10 + (c - 48) = let r = is-digit c (b .0) in omega arith in
+    ap (λ (ds : List ℕ). ds ++ d ∷ cs) (sym (digit-alone c (b .0))) ∙ digits-behind (0 * 10 + (c - 48)) (d ∷ cs) h (b .1)
+
+-- Printing a number that was read gives its field back.
+pub printed-read : (f : List ℕ) (n : ℕ) → numberOf f ≡ some n → f ≡ digits n
+printed-read f n e = let r = number f n e in digits-of-value f (r .plain) (r .all) ∙ ap digits (r .value)

@@ -1,12 +1,14 @@
 -- Laws that a wrong definition of a step, of available or of a question would fail.
-use Prim.Native.Nat.{ℕ, _<_}
+use Prim.Native.Nat.{ℕ, zero, suc, _+_, _*_, _-_, _<_}
+use native.Mathlib.Nat.{zero-mul, suc-mul}
 use native.Mathlib.Omega.{arith}
-use mathlib.Core.Path.{_≡_, refl}
+use mathlib.Core.Path.{_≡_, refl, _∙_}
 use mathlib.Core.Bool.{Bool, true, false, cond, not, _&&_, _||_}
-use mathlib.Core.List.{List, _∷_, map}
+use mathlib.Core.List.{List, _∷_, _++_, map}
 use mathlib.Core.Option.{some}
 use borrow.Author.Tests.{lt-leb}
-use lib.Seq.{map-set-same}
+use lib.ListN.{getD, take, drop}
+use lib.Seq.{map-set-same, drop-drop}
 use Rattle.rules.specs.declared.TaskId.{TaskId}
 use Rattle.rules.specs.declared.Step.{Step}
 use Rattle.rules.specs.declared.Act.the-variants.{Finish}
@@ -17,10 +19,11 @@ use Rattle.rules.specs.declared.Dropping.the-variants.{Leaving, Unreserv
 use Rattle.rules.specs.declared.Slot.{Slot}
 use Rattle.rules.specs.declared.Grant.{Grant}
 use Rattle.rules.specs.declared.Verdict.the-variants.{Ends}
-use Rattle.rules.specs.Clock.{join}
+use Rattle.rules.specs.Sizes.{width}
+use Rattle.rules.specs.Clock.{join, empty}
 use Rattle.rules.specs.Task.{Task, noTask, finished}
 use Rattle.rules.specs.State.{State, strict, reserved, available, hasReservation, taskAt, requestAt, leastAt}
-use Rattle.rules.specs.Fresh.{Start, refusedFresh, refuses12}
+use Rattle.rules.specs.Fresh.{Start, freshTasks, refusedFresh, refuses12}
 use Rattle.rules.specs.Taking.{taking, takeAs}
 use Rattle.rules.specs.Scan.{verdict, walk}
 use Rattle.rules.specs.Steps.{quiet, dropping, effectOf}
@@ -99,3 +102,12 @@ pub finish-keeps-marks : (t : TaskId) (s : State)
     → map (λ (a : Task). a .woken) (effectOf t Finish s .state .tasks) ≡ map (λ (a : Task). a .woken) (s .tasks)
 unfolding effectOf
 finish-keeps-marks t s = map-set-same (λ (a : Task). a .woken) (s .tasks) (t .0) (finished (taskAt t s)) noTask refl
+
+-- In a fresh state: row i of any starting clocks, filled up to the width, is task i's clock.
+pub task-row : (n k i : ℕ) (rows : List ℕ) → i < k → getD (freshTasks n k rows) i noTask .clock ≡ take n (drop (i * n) rows) ++ empty (width - n)
+unfolding freshTasks
+task-row n zero i rows h = absurd (omega arith)
+task-row n (suc k) zero rows h = rw (zero-mul n)
+task-row n (suc k) (suc i) rows h =
+    let e : n + i * n ≡ suc i * n = omega (arith, suc-mul i n) in
+    task-row n k i (drop n rows) (omega arith) ∙ rw (drop-drop (i * n) n rows, e)

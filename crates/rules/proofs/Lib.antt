@@ -20,6 +20,7 @@ pub mod KeepsTaking
 pub mod Laws
 pub mod Lengths
 pub mod Naming
+pub mod Options
 pub mod Orders
 pub mod Parts
 pub mod PassedOver
@@ -30,8 +31,11 @@ pub mod Rooms
 pub mod Scripts
 pub mod Slots
 pub mod Soundness
+pub mod Spawned
 pub mod Starred
+pub mod Starts
 pub mod Stranded
 pub mod Tasks
 pub mod Unchanged
 pub mod Worked
+pub mod WorkedStarts

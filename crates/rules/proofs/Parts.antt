@@ -1,13 +1,14 @@
 -- Parts, fields and lines, read from the front: the first one, and what stands behind it.
-use Prim.Native.Nat.{ℕ, zero, suc, _+_, _≤_, _<_, zero-le, suc-le-suc}
+use Prim.Native.Nat.{ℕ, suc, _+_, _≤_, _<_, zero-le, suc-le-suc}
 use native.Mathlib.Omega.{arith}
 use mathlib.Core.Path.{_≡_, refl, ap, _∙_}
 use mathlib.Core.Bool.{Bool, true, false, cond}
-use mathlib.Core.List.{List, [], _∷_}
+use mathlib.Core.List.{List, [], _∷_, _++_}
 use lib.Dec.{eqb}
-use lib.ListN.{length, getD, take, drop, length-drop, drop-of-length-le}
+use lib.ListN.{length, take, drop, length-drop, drop-of-length-le}
 use lib.Seq.{drop-drop}
-use borrow.Author.Tests.{eqb-true}
+use borrow.Author.Tests.{eqb-true, eq-eqb}
+use Rattle.rules.specs.Promises.{Each}
 use Rattle.rules.specs.Text.{lineFeed, onFirst, parts, joinedBy, before, linesOf, lines}
 
 pub before-length : (b : ℕ) (s : List ℕ) → length (before b s) ≤ length s
@@ -65,6 +66,20 @@ parts-front b (c ∷ cs) = by-test (eqb c b) (parts-front b cs)
     by-test true r = refl
     by-test false r = rw r
 
+-- at most one part more than there are bytes
+pub parts-few : (b : ℕ) (s : List ℕ) → length (parts b s) ≤ length s + 1
+unfolding parts
+parts-few b [] = omega arith
+parts-few b (c ∷ cs) = by-test (eqb c b) (parts-few b cs)
+  where
+    grown : (ps : List (List ℕ)) → length (onFirst c ps) ≤ length ps + 1
+    grown [] = omega arith
+    grown (p ∷ ps) = omega arith
+
+    by-test : (t : Bool) → length (parts b cs) ≤ length cs + 1 → length (cond t ([] ∷ parts b cs) (onFirst c (parts b cs))) ≤ suc (length cs) + 1
+    by-test true h = omega (arith, h)
+    by-test false h = omega (arith, h, grown (parts b cs))
+
 -- Joined again, the parts are the bytes that they were taken from.
 joined-hit : (b : ℕ) (s : List ℕ) → joinedBy b ([] ∷ parts b s) ≡ b ∷ joinedBy b (parts b s)
 unfolding joinedBy
@@ -86,29 +101,44 @@ joined-parts b (c ∷ cs) = by-test (eqb c b) refl (joined-parts b cs)
     by-test false e r = joined-miss b c (parts b cs) ∙ rw r
 
 -- No part has the byte that parts them.
-abbrev Free : ℕ → List (List ℕ) → Type 0
-Free b ps = (k : ℕ) → before b (getD ps k []) ≡ getD ps k []
-
-free-hit : (b : ℕ) (ps : List (List ℕ)) → Free b ps → Free b ([] ∷ ps)
-unfolding before
-free-hit b ps r zero = refl
-free-hit b ps r (suc k) = r k
+abbrev pub Free : ℕ → List (List ℕ) → Type 0
+Free b ps = Each (λ (p : List ℕ). before b p ≡ p) ps
 
 free-miss : (b c : ℕ) (ps : List (List ℕ)) → eqb c b ≡ false → Free b ps → Free b (onFirst c ps)
 unfolding before
-free-miss b c [] e r zero = rw e
-free-miss b c [] e r (suc k) = refl
-free-miss b c (p ∷ ps) e r zero = rw e (ap (λ (q : List ℕ). c ∷ q) (r 0))
-free-miss b c (p ∷ ps) e r (suc k) = r (suc k)
+free-miss b c [] e h = (rw e, tt)
+free-miss b c (p ∷ ps) e h = (rw e (ap (λ (q : List ℕ). c ∷ q) (h .0)), h .1)
 
-pub parts-free : (b : ℕ) (s : List ℕ) (k : ℕ) → before b (getD (parts b s) k []) ≡ getD (parts b s) k []
+pub parts-free : (b : ℕ) (s : List ℕ) → Free b (parts b s)
 unfolding parts before
-parts-free b [] = free-hit b [] (λ k. refl)
+parts-free b [] = (refl, tt)
 parts-free b (c ∷ cs) = by-test (eqb c b) refl (parts-free b cs)
   where
     by-test : (t : Bool) → eqb c b ≡ t → Free b (parts b cs) → Free b (cond t ([] ∷ parts b cs) (onFirst c (parts b cs)))
-    by-test true e r = free-hit b (parts b cs) r
-    by-test false e r = free-miss b c (parts b cs) e r
+    by-test true e h = (refl, h)
+    by-test false e h = free-miss b c (parts b cs) e h
+
+-- The parts before a b, then those behind it.
+on-first-append : (b c : ℕ) (s : List ℕ) (ps : List (List ℕ)) → onFirst c (parts b s ++ ps) ≡ onFirst c (parts b s) ++ ps
+on-first-append b c s ps = rw (parts-front b s)
+
+pub parts-append : (b : ℕ) (s t : List ℕ) → parts b (s ++ b ∷ t) ≡ parts b s ++ parts b t
+unfolding parts
+parts-append b [] t = rw (eq-eqb b b refl)
+parts-append b (c ∷ s) t = rw (parts-append b s t) (by-test (eqb c b))
+  where
+    by-test : (h : Bool) → cond h ([] ∷ (parts b s ++ parts b t)) (onFirst c (parts b s ++ parts b t)) ≡ cond h ([] ∷ parts b s) (onFirst c (parts b s)) ++ parts b t
+    by-test true = refl
+    by-test false = on-first-append b c s (parts b t)
+
+-- Texts that do not have the byte are the parts of what they are joined to.
+parts-alone : (b : ℕ) (p : List ℕ) → before b p ≡ p → parts b p ≡ p ∷ []
+parts-alone b p e = parts-last b p (omega (arith, ap length e)) ∙ rw e
+
+pub parts-joined : (b : ℕ) (p : List ℕ) (ps : List (List ℕ)) → Free b (p ∷ ps) → parts b (joinedBy b (p ∷ ps)) ≡ p ∷ ps
+unfolding joinedBy
+parts-joined b p [] h = parts-alone b p (h .0)
+parts-joined b p (q ∷ ps) h = parts-append b p (joinedBy b (q ∷ ps)) ∙ rw (parts-alone b p (h .0), parts-joined b q ps (h .1))
 
 -- From a place on: e is where the part that starts at `at` ends.
 module _ (b : ℕ) (s : List ℕ) (at e : ℕ) (ends : e ≡ at + length (before b (drop at s))) where

@@ -4,14 +4,11 @@ use Prim.Native.Nat.{ℕ, _+_, _*_, _≤_}
 use native.Mathlib.Omega.{arith}
 use native.Mathlib.Decide.{decLe}
 use mathlib.Core.Path.{_≡_, refl, ap, subst}
-use mathlib.Core.Bool.{Bool, true, false, cond, _&&_}
+use mathlib.Core.Bool.{Bool, true, false, cond}
 use mathlib.Core.List.{List, [], _∷_, _++_}
 use mathlib.Core.Option.{Option, none, some, Option·map, Option·getD}
-use lib.Dec.{leb}
 use lib.ListN.{length, length-append}
-use borrow.Author.Tests.{leb-true}
 use Rattle.rules.specs.declared.TaskId.{TaskId}
-use Rattle.rules.specs.declared.Fairness.{Fairness}
 use Rattle.rules.specs.declared.Act.{Act}
 use Rattle.rules.specs.declared.Act.the-variants.{Close, Sleep, Finish}
 use Rattle.rules.specs.declared.Step.{Step}
@@ -22,10 +19,12 @@ use Rattle.rules.specs.Steps.{_does_, Outcome, quiet, effectOf}
 use Rattle.rules.specs.Steps.Answer.{done}
 use Rattle.rules.specs.Runs.{step, start}
 use Rattle.rules.specs.Sound.{Sound}
-use Rattle.rules.specs.Text.{_is_, space, lineFeed, same, parts, joinedBy, fields, linesOf, allDigits, noLeadingZero, valueFrom, numberOf}
-use Rattle.rules.specs.Script.{_>>=_, fairnessOf, makerOf, startWith, startBy, startOf, actOf, numbersOf, stepWith, stepBy, stepOf, outcomeText, printing, trace, traceFrom, program, longest, printed, byteRoom}
+use Rattle.rules.specs.Text.{_is_, space, lineFeed, same, parts, joinedBy, fields, linesOf, noLeadingZero, numberOf}
+use Rattle.rules.specs.Script.{_>>=_, startBy, startOf, actOf, numbersOf, stepWith, stepBy, stepOf, outcomeText, printing, trace, traceFrom, program, longest, printed, byteRoom}
 use Rattle.rules.proofs.Bools.{by-cond}
+use Rattle.rules.proofs.Options.{said-not}
 use Rattle.rules.proofs.Parts.{joined-parts}
+use Rattle.rules.proofs.Starts.{fields-said}
 use Rattle.rules.proofs.KeepsSteps.{by-refusal, sound-step, sound-fresh}
 use Rattle.rules.proofs.Conservation.{step-stock}
 use Rattle.rules.proofs.Lengths.{line-short, outcome-short, quiet-outcome}
@@ -74,9 +73,6 @@ alone-quiet letter =
     go false false false false false false false false false false false false = tt
 
 -- The fields of a line that says a step.
-
-said-not : {A : Type 0} (o : Option A) (a : A) → o ≡ some a → o ≡ none → ⊥
-said-not o a e f = let z : _≡_ {A = ℕ} 0 1 = cc in omega arith
 
 no-letter : (o : Option (List ℕ)) → (o >>= stepWith []) ≡ none
 unfolding actOf same
@@ -139,36 +135,6 @@ step-room line a e s h l = go (kind-of line a e)
     go (long-line m) = omega (arith, outcome-short a s h l)
     go (quiet-line q) = omega (arith, quiet-outcome a s h l (q s), step-some line a e)
 
--- A start's stock is a number that a field says.
-
-number-fits : (f : List ℕ) (n : ℕ) → numberOf f ≡ some n → n ≤ largest
-unfolding numberOf
-number-fits f n = go (noLeadingZero f && allDigits f) (leb (valueFrom 0 f) largest) refl
-  where
-    go : (a b : Bool) → leb (valueFrom 0 f) largest ≡ b → cond (a && b) (some (valueFrom 0 f)) none ≡ some n → n ≤ largest
-    go false b q e = absurd (said-not none n e refl)
-    go true false q e = absurd (said-not none n e refl)
-    go true true q e = let v : valueFrom 0 f ≡ n = cc in omega (arith, leb-true (valueFrom 0 f) largest q)
-
-start-by : (p : List (List ℕ)) (a : Start) → startBy p ≡ some a → a .stock ≤ largest
-unfolding startBy
-start-by [] a e = absurd (said-not none a e refl)
-start-by (f ∷ []) a e = absurd (said-not none a e refl)
-start-by (f ∷ n ∷ []) a e = absurd (said-not none a e refl)
-start-by (f ∷ n ∷ m ∷ []) a e = absurd (said-not none a e refl)
-start-by (f ∷ n ∷ m ∷ k ∷ g ∷ fs) a e = absurd (said-not none a e refl)
-start-by (f ∷ n ∷ m ∷ k ∷ []) a e = go (fairnessOf f) (numberOf n) (makerOf m) (numberOf k) refl e
-  where
-    go : (o : Option Fairness) (c : Option ℕ) (r : Option (Option TaskId)) (d : Option ℕ) → numberOf n ≡ c
-        → (o >>= λ x. c >>= λ y. r >>= λ z. d >>= λ w. some (startWith x y z w)) ≡ some a → a .stock ≤ largest
-    go none c r d q e = absurd (said-not none a e refl)
-    go (some x) none r d q e = absurd (said-not none a e refl)
-    go (some x) (some y) none d q e = absurd (said-not none a e refl)
-    go (some x) (some y) (some z) none q e = absurd (said-not none a e refl)
-    go (some x) (some y) (some z) (some w) q e =
-        let v : y ≡ a .stock = ap (λ (b : Option Start). Option·getD b a .stock) e in
-        omega (arith, number-fits n y q)
-
 -- From line to line, and the whole.
 
 trace-room : (ps : List (List ℕ)) (s : State) → Sound s → stock s ≤ largest → length (trace s (linesOf ps)) ≤ byteRoom * length (joinedBy lineFeed ps)
@@ -208,7 +174,7 @@ program-room (p ∷ q ∷ ps) = go (startOf p) refl
     go none e = omega (arith, length-append p (lineFeed ∷ joinedBy lineFeed (q ∷ ps)))
     go (some a) e =
         by-cond (λ (t : List ℕ). length t ≤ byteRoom * length (p ++ lineFeed ∷ joinedBy lineFeed (q ∷ ps))) (refuses12 a) (λ b. omega (arith, length-append p (lineFeed ∷ joinedBy lineFeed (q ∷ ps)))) (λ b.
-        let l = start-by (fields p) a e in
+        let l = fields-said (fields p) a e .stock-fits in
         let k : length (trace (fresh a) (linesOf (q ∷ ps))) ≤ byteRoom * length (joinedBy lineFeed (q ∷ ps)) = trace-room (q ∷ ps) (fresh a) (sound-fresh a b) (omega (arith, fresh-stock a)) in
         rw (accepted-start a b)
         (omega (arith, length-append p (lineFeed ∷ joinedBy lineFeed (q ∷ ps)), length-append (outcomeText (quiet done (fresh a))) (trace (fresh a) (linesOf (q ∷ ps))), first-room a b l, start-some p a e, k)))

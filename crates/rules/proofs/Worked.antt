@@ -4,6 +4,7 @@ use Prim.Native.String.{String}
 use mathlib.Core.Path.{_≡_, refl}
 use mathlib.Core.List.{List, [], _∷_, _++_, map}
 use Rattle.rules.specs.Clock.{join, tick, empty}
+use Rattle.rules.specs.Spawning.{family, rowsOf, spawned}
 use Rattle.rules.specs.Fresh.{firstBatch, freshTasks, freshBatches, fresh, refuses12}
 use Rattle.rules.specs.Taking.{standingOf, standing, eat, taking, takeAs, takeQueued, adding, allBypassable, direct}
 use Rattle.rules.specs.Scan.{without, verdict, grantQueued, walk, scan}
@@ -108,14 +109,24 @@ texts =
     ∷ "\n" prints "bad\n"
     ∷ "A 0 1\nA 0 1\n" prints "bad\n"
     ∷ "S 1 0\nA 0 1\n" prints "bad\n"
-    ∷ "S 1 0 1 0\nA 0 1\n" prints "bad\n"
+    ∷ "S 1 0 1 0 0\nA 0 1\n" prints "bad\n"
+    ∷ "S 1 - 2 0 0 0\nA 0 1\n" prints "bad\n"
+    ∷ "S 1 - 1 0 \nA 0 1\n" prints "bad\n"
+    ∷ "S 1 - 1 00\nA 0 1\n" prints "bad\n"
+    ∷ "S 1 - 0 5\nA 0 1\n" prints "bad\n"
+    ∷ "S 0 - 2147483649 0\nA 0 1\n" prints "bad\n"
+    ∷ "S 1 9 2 0 0 0\nA 0 1\n" prints "bad\n"
     ∷ "S - 0 1\nA 0 1\n" prints "bad\n"
     ∷ "S 4294967296 0 1\nA 0 1\n" prints "bad\n"
     -- a refused first line ends it too
     ∷ "S 1 - 0\nA 0 1\n" prints "r12\n"
     ∷ "S 1 0 17\nA 0 1\n" prints "r12\n"
     ∷ "S 1 2 2\nA 0 1\n" prints "r12\n"
+    ∷ "S 1 9 2 0 0 0 0\nA 0 1\n" prints "r12\n"
     ∷ "U 1 300 2\nA 0 1\n" prints "r12\n"
+    -- starting clocks
+    ∷ "S 1 0 1 1\nT 0 1\n" prints "done 1 1 0 0 -\ngranted 0 0 0 0 t\n"
+    ∷ "S 1 - 1 4294967295\nT 0 1\nL 0 1\nL 0 0\n" prints "done 1 1 0 0 -\nr11 1 1 0 0 -\nr11 1 1 0 0 -\ndone 1 1 0 0 -\n"
     -- an unended line
     ∷ "S 1 0 1" prints "bad\n"
     ∷ "S 1 0 1\nA 0 1" prints "done 1 1 0 0 -\nbad\n"
@@ -124,5 +135,5 @@ texts =
 
 pub worked : (map printed (map inputs scripts) ≡ map outputs scripts)
     × (map (λ (r : Row). printed (bytes (r .input))) texts ≡ map (λ (r : Row). bytes (r .output)) texts)
-unfolding scripts texts inputs outputs join tick empty firstBatch freshTasks freshBatches fresh refuses12 standingOf standing eat taking takeAs takeQueued adding allBypassable direct without verdict grantQueued walk scan wakeEach wakeUnfair reblockEach reblock pollReserving pollPlain polling pollWork lowestFree make tryBy poll release dropping dropQueued dropWork dropRequest emptyQueue closing effectOf grounds refusal step start same parts joinedBy linesOf allDigits noLeadingZero valueFrom numberOf lastDigits digits startBy actOf numbersOf stepBy outcomeText trace program printed
+unfolding scripts texts inputs outputs join tick empty firstBatch freshTasks freshBatches fresh refuses12 standingOf standing eat taking takeAs takeQueued adding allBypassable direct without verdict grantQueued walk scan wakeEach wakeUnfair reblockEach reblock pollReserving pollPlain polling pollWork lowestFree make tryBy poll release dropping dropQueued dropWork dropRequest emptyQueue closing effectOf grounds refusal step start same parts joinedBy linesOf allDigits noLeadingZero valueFrom numberOf lastDigits digits family rowsOf spawned startBy actOf numbersOf stepBy outcomeText trace program printed
 worked = (refl, refl)

@@ -4,6 +4,7 @@ pub mod Task
 pub mod Request
 pub mod State
 pub mod Fresh
+pub mod Spawning
 pub mod Taking
 pub mod Scan
 pub mod Waking

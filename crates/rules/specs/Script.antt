@@ -1,10 +1,10 @@
--- Document 01, "The script program": what `semtrace` prints for a script.
+-- Document 01, "The script program", with starting clocks as document 02 (No. 2) has them: what `semtrace` prints for a script.
 use Prim.Native.Nat.{ℕ, _*_}
 use mathlib.Core.Bool.{Bool, true, false, cond}
 use mathlib.Core.List.{List, [], _∷_, _++_, map}
 use mathlib.Core.Option.{Option, none, some, Option·map}
-use lib.Dec.{ltb}
-use lib.ListN.{length, replicate}
+use lib.Dec.{eqb, ltb}
+use lib.ListN.{length}
 use Rattle.rules.specs.declared.TaskId.{TaskId}
 use Rattle.rules.specs.declared.Fairness.{Fairness}
 use Rattle.rules.specs.declared.Fairness.the-variants.{StrictlyFair, Unfair}
@@ -16,6 +16,7 @@ use Rattle.rules.specs.declared.Taker.the-variants.{BySlot, ByTry}
 use Rattle.rules.specs.declared.Grant.{Grant}
 use Rattle.rules.specs.State.{State, available, stock}
 use Rattle.rules.specs.Fresh.{Start, refuses12}
+use Rattle.rules.specs.Spawning.{spawned}
 use Rattle.rules.specs.Steps.{_does_, Answer, Outcome}
 use Rattle.rules.specs.Steps.Answer.{done, granted, pending, closed, none-left, made, refused}
 use Rattle.rules.specs.Runs.{step, start}
@@ -37,23 +38,37 @@ fairnessOf f = cond (f is "S") (some StrictlyFair) (cond (f is "U") (some Unfair
 abbrev pub makerOf : List ℕ → Option (Option TaskId)
 makerOf f = cond (f is "-") (some none) (Option·map (λ t. some (record { 0 = t })) (numberOf f))
 
--- Starting clocks are all zero.
-abbrev pub startWith : Fairness → ℕ → Option TaskId → ℕ → Start
-startWith f n m k = record { fairness = f; stock = n; tasks = k; clocks = replicate (k * k) 0; maker = m }
+-- the numbers that fields say, where each says one
+unfoldable pub numbersOf : List (List ℕ) → Option (List ℕ)
+numbersOf [] = some []
+numbersOf (f ∷ fs) = do
+  n ← numberOf f
+  ns ← numbersOf fs
+  some (n ∷ ns)
 
--- `S` or `U`, stock, maker or `-`, tasks
+-- Document 02, No. 2: the first line may carry the starting clocks after the task count, row by row, all or none. None means that task 0
+-- spawned the rest.
+abbrev pub clocksSaid : ℕ → List ℕ → Option (List ℕ)
+clocksSaid k [] = some (spawned k)
+clocksSaid k (c ∷ cs) = cond (eqb (length (c ∷ cs)) (k * k)) (some (c ∷ cs)) none
+
+abbrev pub startWith : Fairness → ℕ → Option TaskId → ℕ → List ℕ → Start
+startWith f n m k cs = record { fairness = f; stock = n; tasks = k; clocks = cs; maker = m }
+
+-- `S` or `U`, stock, maker or `-`, tasks; then starting clocks, or none
 unfoldable pub startBy : List (List ℕ) → Option Start
 startBy [] = none
 startBy (f ∷ []) = none
 startBy (f ∷ n ∷ []) = none
 startBy (f ∷ n ∷ m ∷ []) = none
-startBy (f ∷ n ∷ m ∷ k ∷ []) = do
+startBy (f ∷ n ∷ m ∷ k ∷ cs) = do
   fairness ← fairnessOf f
   stock ← numberOf n
   maker ← makerOf m
   tasks ← numberOf k
-  some (startWith fairness stock maker tasks)
-startBy (f ∷ n ∷ m ∷ k ∷ g ∷ fs) = none
+  entries ← numbersOf cs
+  clocks ← clocksSaid tasks entries
+  some (startWith fairness stock maker tasks clocks)
 
 abbrev pub startOf : List ℕ → Option Start
 startOf line = startBy (fields line)
@@ -93,14 +108,6 @@ actOf letter ns =
     (cond (letter is "Z") (noMore Sleep ns)
     (cond (letter is "F") (noMore Finish ns)
     none)))))))))))
-
--- the numbers that fields say, where each says one
-unfoldable pub numbersOf : List (List ℕ) → Option (List ℕ)
-numbersOf [] = some []
-numbersOf (f ∷ fs) = do
-  n ← numberOf f
-  ns ← numbersOf fs
-  some (n ∷ ns)
 
 -- the actor is the first number
 abbrev pub stepWith : List ℕ → List ℕ → Option Step

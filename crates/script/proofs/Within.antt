@@ -4,7 +4,6 @@ use native.Mathlib.Decide.{decLe}
 use native.Mathlib.Omega.{arith}
 use mathlib.Core.Path.{_≡_, refl, ap, sym, _∙_}
 use mathlib.Core.Bool.{true}
-use mathlib.Core.List.{List}
 use mathlib.Core.Option.{Option, none, some}
 use lib.ListN.{length}
 use Rattle.rules.specs.declared.TaskId.{TaskId}
@@ -17,13 +16,11 @@ use Rattle.rules.specs.State.{State}
 use Rattle.rules.specs.Fresh.{Start, refuses12}
 use Rattle.rules.specs.Steps.{_does_}
 use Rattle.rules.specs.Runs.{step, start}
-use Rattle.rules.specs.Text.{Line}
-use Rattle.rules.specs.Script.{printing, traceFrom}
 use Rattle.rules.proofs.Naming.{past-tasks, past-slots, same-actor, same-poll, same-drop, no-such-maker}
 use Rattle.rules.proofs.Scripts.{many-tasks}
 use Rattle.rules.proofs.Laws.{refused-start}
-use Rattle.script.specs.Opening.{makerWithin, startNamed, startWithin}
-use Rattle.script.specs.Saying.{taskNamed, slotNamed, actWithin, stepWithin, within}
+use Rattle.script.specs.Opening.{makerWithin, startNamed}
+use Rattle.script.specs.Saying.{taskNamed, slotNamed, actWithin, stepWithin}
 
 -- up to 255 a number is itself
 itself : (n : ℕ) → n ≤ 255 → min n 255 ≡ n
@@ -66,10 +63,6 @@ module _ (s : State) (tasks : length (s .tasks) ≤ maxTasks) (slots : length (s
         | no h ↦ same-actor (stepWithin a) a s (past-tasks (taskNamed (a .actor .0)) s (omega arith)) (past-tasks (a .actor) s (omega arith))
       ]
 
-  pub printing-within : (o : Option Step) → printing (within o) s ≡ printing o s
-  printing-within none = refl
-  printing-within (some a) = rw (step-within a)
-
 -- The maker of a start.
 
 -- a number up to 255 is kept; a larger one is refused, as 255 is
@@ -94,15 +87,7 @@ keep a (some t) e =
       | no h ↦ refused-both (refused-maker (startNamed a) (taskNamed (t .0)) (ap makerWithin e) (omega arith)) (refused-maker a t e (omega arith))
     ]
 
--- A first line prints what it prints by the number that the program passes on.
-trace-kept : (a : Start) (ls : List Line) → Kept a → traceFrom (some (startNamed a)) ls ≡ traceFrom (some a) ls
-trace-kept a ls (kept e) = rw e
-trace-kept a ls (refused-both h k) = rw (h, k)
-
-pub trace-within : (o : Option Start) (ls : List Line) → traceFrom (startWithin o) ls ≡ traceFrom o ls
-trace-within none ls = refl
-trace-within (some a) ls = trace-kept a ls (keep a (a .maker) refl)
-
+-- A start begins what it begins by the number that the program passes on.
 start-kept : (a : Start) → Kept a → start (startNamed a) ≡ start a
 start-kept a (kept e) = rw e
 start-kept a (refused-both h k) = refused-start (startNamed a) h ∙ sym (refused-start a k)

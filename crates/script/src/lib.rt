@@ -4,7 +4,7 @@ ghost use mathlib.Core.List.{_∷_, []};
 ghost use Prim.Native.Nat.{_≤_, min};
 ghost use lib.ListN.{length};
 ghost use Rattle.rules.specs.Script.{startOf, stepOf};
-ghost use Rattle.script.specs.Opening.{makerSaid, opened, startWithin, tasksOn, makerOn, stockOn};
+ghost use Rattle.script.specs.Opening.{makerSaid, Opens, startWithin, tasksOn, makerOn, stockOn};
 ghost use Rattle.script.specs.Saying.{parsed, within, actingBy, saying, sayingOn};
 use rules::Act;
 use rules::Fairness;
@@ -26,7 +26,7 @@ pub enum Maker {
     Nobody,
 }
 
-// What a start is given; its clocks are all zero.
+// What a start is given besides its clocks.
 pub struct First {
     pub fairness: Fairness,
     pub stock: u32,
@@ -34,9 +34,10 @@ pub struct First {
     pub tasks: u32,
 }
 
-// What the first line says: a start, or nothing.
+// What the first line says: a start whose tasks were spawned, or one whose clocks stand in the line from a place on; or nothing.
 pub enum Opening {
-    Is(First),
+    Spawned(First),
+    Given(First, usize),
     Bad,
 }
 
@@ -140,26 +141,34 @@ pub fn step_of(line: &[u8]) -> Parsed
     Parsed::Bad
 }
 
-// What the fields of a first line say from a place on: the tasks; the maker and the tasks; the stock, the maker and the tasks.
+// What the fields of a first line say from a place on: the tasks and their clocks; the maker and these; the stock and these.
 fn tasks_at(line: &[u8], at: usize, fairness: Fairness, stock: u32, maker: Maker) -> Opening
     requires { ⌜ at ≤ length (now line) ⌝ }
-    ensures { λ r. ⌜ opened r ≡ tasksOn fairness stock (makerSaid maker) (now (line .entry)) at ⌝ }
+    ensures { λ r. ⌜ Opens (now (line .entry)) (tasksOn fairness stock (makerSaid maker) (now (line .entry)) at) r ⌝ }
 {
     match text::number_at(line, at) {
-        Reading::Last(tasks) => Opening::Is(First {
+        Reading::Last(tasks) => Opening::Spawned(First {
             fairness,
             stock,
             maker,
             tasks,
         }),
-        Reading::Then(_, _) => Opening::Bad,
+        Reading::Then(tasks, next) => Opening::Given(
+            First {
+                fairness,
+                stock,
+                maker,
+                tasks,
+            },
+            next,
+        ),
         Reading::Other => Opening::Bad,
     }
 }
 
 fn maker_at(line: &[u8], at: usize, fairness: Fairness, stock: u32) -> Opening
     requires { ⌜ at ≤ length (now line) ⌝ }
-    ensures { λ r. ⌜ opened r ≡ makerOn fairness stock (now (line .entry)) at ⌝ }
+    ensures { λ r. ⌜ Opens (now (line .entry)) (makerOn fairness stock (now (line .entry)) at) r ⌝ }
 {
     let f = text::field(line, at);
     let e = at + f.len();
@@ -177,7 +186,7 @@ fn maker_at(line: &[u8], at: usize, fairness: Fairness, stock: u32) -> Opening
 
 fn stock_at(line: &[u8], at: usize, fairness: Fairness) -> Opening
     requires { ⌜ at ≤ length (now line) ⌝ }
-    ensures { λ r. ⌜ opened r ≡ stockOn fairness (now (line .entry)) at ⌝ }
+    ensures { λ r. ⌜ Opens (now (line .entry)) (stockOn fairness (now (line .entry)) at) r ⌝ }
 {
     match text::number_at(line, at) {
         Reading::Last(_) => Opening::Bad,
@@ -186,9 +195,9 @@ fn stock_at(line: &[u8], at: usize, fairness: Fairness) -> Opening
     }
 }
 
-// What the first line says: `S` or `U`, stock, maker or `-`, tasks.
+// What the first line says: `S` or `U`, stock, maker or `-`, tasks; then starting clocks, or none.
 pub fn start_of(line: &[u8]) -> Opening
-    ensures { λ r. ⌜ opened r ≡ startWithin (startOf (now (line .entry))) ⌝ }
+    ensures { λ r. ⌜ Opens (now (line .entry)) (startWithin (startOf (now (line .entry)))) r ⌝ }
 {
     let f = text::field(line, 0);
     let e = f.len();

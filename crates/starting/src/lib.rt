@@ -1,16 +1,18 @@
 // The fresh state that a first line says, in words that the caller lends.
 ghost use mathlib.Core.Path.{_≡_};
-ghost use lib.ListN.{replicate};
-ghost use Rattle.rules.specs.Runs.{start as startOf};
+ghost use lib.ListN.{length};
+ghost use Rattle.rules.specs.Spawning.{spawned};
+ghost use Rattle.rules.specs.Runs.{start as begun};
 ghost use Rattle.state.specs.View.{words};
 ghost use Rattle.fresh.specs.Starting.{Gives};
-ghost use Rattle.reading.specs.Starts.{saidWith, startSaid};
+ghost use Rattle.script.specs.Opening.{startSaid};
+ghost use Rattle.reading.specs.Starts.{startRead};
 use fresh::Started;
 use script::First;
 use script::Maker;
 
 // With starting clocks, row by row.
-pub fn start_with(
+fn start_with(
     a: First,
     starts: &[u32],
     slots: &mut [u32; 320],
@@ -21,7 +23,7 @@ pub fn start_with(
     makers: &mut [u32; 512],
     clocks: &mut [u32; 256],
 ) -> Started
-    ensures { λ r. ⌜ Gives r (words (now (slots .exit)) (now (tasks .exit)) (now (sizes .exit)) (now (rows .exit)) (now (last .exit)) (now (makers .exit)) (now (clocks .exit))) (startOf (saidWith a (now (starts .entry)))) ⌝ }
+    ensures { λ r. ⌜ Gives r (words (now (slots .exit)) (now (tasks .exit)) (now (sizes .exit)) (now (rows .exit)) (now (last .exit)) (now (makers .exit)) (now (clocks .exit))) (begun (startSaid a (now (starts .entry)))) ⌝ }
 {
     let fairness = a.fairness;
     let maker = a.maker;
@@ -56,15 +58,10 @@ pub fn start_with(
     }
 }
 
-fn zeros() -> [u32; 256]
-    ensures { λ r. ⌜ r ≡ replicate 256 0 ⌝ }
-{
-    [0u32; 256]
-}
-
-// With clocks that are all zero.
+// With the clocks that stand in words from the first on: 256 of them, as a slice, since a part of a lent array cannot be lent on.
 pub fn start(
     a: First,
+    starts: &[u32],
     slots: &mut [u32; 320],
     tasks: &mut [u32; 32],
     sizes: &mut [u32; 64],
@@ -73,9 +70,9 @@ pub fn start(
     makers: &mut [u32; 512],
     clocks: &mut [u32; 256],
 ) -> Started
-    ensures { λ r. ⌜ Gives r (words (now (slots .exit)) (now (tasks .exit)) (now (sizes .exit)) (now (rows .exit)) (now (last .exit)) (now (makers .exit)) (now (clocks .exit))) (startOf (startSaid a)) ⌝ }
+    requires { ⌜ length (now starts) ≡ 256 ⌝ }
+    ensures { λ r. ⌜ Gives r (words (now (slots .exit)) (now (tasks .exit)) (now (sizes .exit)) (now (rows .exit)) (now (last .exit)) (now (makers .exit)) (now (clocks .exit))) (begun (startRead a (now (starts .entry)))) ⌝ }
 {
-    let starts = zeros();
     let n = reading::entries_of(a.tasks);
     start_with(
         a,
@@ -88,4 +85,22 @@ pub fn start(
         makers,
         clocks,
     )
+}
+
+// With the clocks of tasks that were spawned.
+pub fn start_spawned(
+    a: First,
+    slots: &mut [u32; 320],
+    tasks: &mut [u32; 32],
+    sizes: &mut [u32; 64],
+    rows: &mut [u32; 1024],
+    last: &mut [u32; 16],
+    makers: &mut [u32; 512],
+    clocks: &mut [u32; 256],
+) -> Started
+    ensures { λ r. ⌜ Gives r (words (now (slots .exit)) (now (tasks .exit)) (now (sizes .exit)) (now (rows .exit)) (now (last .exit)) (now (makers .exit)) (now (clocks .exit))) (begun (startSaid a (spawned (a .tasks)))) ⌝ }
+{
+    let mut starts = [0u32; 256];
+    spawning::spawn(a.tasks, &mut starts);
+    start(a, &starts, slots, tasks, sizes, rows, last, makers, clocks)
 }

@@ -3,7 +3,6 @@ use Prim.Native.Nat.{ℕ, _+_, _*_, _/_, _≤_, _<_}
 use native.Mathlib.Nat.{div-add-mod'}
 use native.Mathlib.Omega.{arith}
 use mathlib.Core.Path.{_≡_, refl, sym}
-use mathlib.Core.Bool.{false}
 use mathlib.Core.List.{List, [], _∷_, _++_}
 use lib.ListN.{length, drop}
 use lib.Seq.{length-take-le}
@@ -51,7 +50,7 @@ module _ (script : List ℕ) (from : ℕ) (old : List ℕ) {s : BatchSemaphore} 
       fresh-printed b = appended-then (a w) (here first-room) b
 
 -- The whole script, by what its first line came to.
-module _ {script : List ℕ} {r : Begun} {w : Words} (b : Begins false script r w) where
+module _ {script : List ℕ} {r : Begun} {w : Words} (b : Begins script r w) where
   module _ {m : ℕ} (h : length (program (lines script)) ≤ m) where
     pub whole-room : r .how ≡ Fresh → length (firstOf (viewOf (r .state) w) ++ trace (viewOf (r .state) w) (lines (drop (r .next) script))) ≤ m
     whole-room q = rw (fresh-prints (b .fresh q)) at h
@@ -80,7 +79,7 @@ module _ {script : List ℕ} {r : Begun} {w : Words} (b : Begins false script r 
   whole-none {old} q = rw (nothing-prints script (b .nothing q)) (appended-none old 0)
 
 -- the words that a fresh state stands in are of their lengths
-module _ {script : List ℕ} {r : Begun} {slots tasks sizes rows last makers clocks : List ℕ} (b : Begins false script r (words slots tasks sizes rows last makers clocks)) (q : r .how ≡ Fresh) where
+module _ {script : List ℕ} {r : Begun} {slots tasks sizes rows last makers clocks : List ℕ} (b : Begins script r (words slots tasks sizes rows last makers clocks)) (q : r .how ≡ Fresh) where
   shaped : ShapedAll (r .state) (words slots tasks sizes rows last makers clocks)
   shaped = b .fresh q .begins .shaped
 

@@ -149,7 +149,6 @@ fn run_whole(script: &[u8], out: &mut [u8]) -> usize
     let mut grants = [0u32; 96];
     let r = walking::begin(
         script,
-        false,
         &mut slots,
         &mut tasks,
         &mut sizes,

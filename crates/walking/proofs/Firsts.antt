@@ -4,15 +4,15 @@ use native.Mathlib.Omega.{arith}
 use mathlib.Core.Path.{_≡_, refl, ap, sym, subst, _∙_}
 use mathlib.Core.Bool.{Bool, true, false, cond}
 use mathlib.Core.List.{List, []}
-use mathlib.Core.Option.{Option, some}
-use lib.ListN.{length, take, drop}
-use lib.Seq.{length-take-le}
+use mathlib.Core.Option.{Option, none, some}
+use lib.ListN.{length, drop}
 use Rattle.rules.specs.Fresh.{Start, fresh, refusedFresh, refuses12}
 use Rattle.rules.specs.Steps.{Outcome, quiet}
 use Rattle.rules.specs.Steps.Answer.{done, refused}
 use Rattle.rules.specs.Runs.{start}
 use Rattle.rules.specs.Text.{Line, lines}
-use Rattle.rules.specs.Script.{said}
+use Rattle.rules.specs.Script.{startOf, said}
+use Rattle.rules.proofs.Options.{said-not}
 use Rattle.state.specs.View.{Words}
 use Rattle.fresh.specs.declared.Started.{Started}
 use Rattle.fresh.specs.Starting.{Gives}
@@ -21,7 +21,7 @@ use Rattle.script.specs.declared.First.{First}
 use Rattle.reading.specs.Steps.{lineBytes}
 use Rattle.reading.specs.declared.FirstLine.{FirstLine}
 use Rattle.reading.specs.declared.FirstLine.the-variants.{Is as Says, Bad as SaysNothing, Nothing as NoLine}
-use Rattle.reading.specs.Starts.{startAs, saidWith, StartAt, BadAt, SaysFirst}
+use Rattle.reading.specs.Starts.{startRead, StartAt, BadAt, SaysFirst}
 use Rattle.walking.specs.declared.Beginning.{Beginning}
 use Rattle.walking.specs.declared.Beginning.the-variants.{Fresh, Refused, Bad, Nothing}
 use Rattle.walking.specs.declared.Begun.{Begun}
@@ -56,54 +56,51 @@ said-bytes f l a e = go (l .ended) refl
   where
     go : (b : Bool) → l .ended ≡ b → 1 ≤ lineBytes l
     go true q = rw q (omega arith)
-    go false q = let p = rw q at e in let z : _≡_ {A = ℕ} 0 1 = cc in absurd (omega arith)
+    go false q = absurd (said-not none a (rw q at e) refl)
 
 -- a start that the first line says
-module _ (first : First) (starts : List ℕ) (next : ℕ) (r : Started) (w : Words) (g : Gives r w (start (saidWith first starts))) where
+module _ (first : First) (starts : List ℕ) (next : ℕ) (r : Started) (w : Words) (g : Gives r w (start (startRead first starts))) where
   pub start-refused : (q : Begun) → r .refused ≡ true → q .how ≡ Refused → StartedBy first starts next q w
-  start-refused q h e = rw e (sym (refused-exactly r w (saidWith first starts) g) ∙ h)
+  start-refused q h e = rw e (sym (refused-exactly r w (startRead first starts) g) ∙ h)
 
   pub start-accepted : r .refused ≡ false → StartedBy first starts next (record { how = Fresh; state = r .state; next = next }) w
   start-accepted h = (
     refl,
     record {
-      accepted = sym (refused-exactly r w (saidWith first starts) g) ∙ h;
-      view = accepted-fresh r w (saidWith first starts) g h;
+      accepted = sym (refused-exactly r w (startRead first starts) g) ∙ h;
+      view = accepted-fresh r w (startRead first starts) g h;
       shaped = g .shaped;
-      sound = started-sound r w (saidWith first starts) g;
+      sound = started-sound r w (startRead first starts) g;
     },
   )
 
 -- what there is to say, by what it came to
-BeginsAs : Beginning → Bool → List ℕ → Begun → Words → Type 0
-BeginsAs Fresh clocks script r w = FreshAt clocks script r w
-BeginsAs Refused clocks script r w = RefusedAt clocks script
-BeginsAs Bad clocks script r w = BadAt clocks script
-BeginsAs Nothing clocks script r w = lines script ≡ []
+BeginsAs : Beginning → List ℕ → Begun → Words → Type 0
+BeginsAs Fresh script r w = FreshAt script r w
+BeginsAs Refused script r w = RefusedAt script
+BeginsAs Bad script r w = BadAt script
+BeginsAs Nothing script r w = lines script ≡ []
 
-begins : (clocks : Bool) (script : List ℕ) (r : Begun) (w : Words) → BeginsAs (r .how) clocks script r w → Begins clocks script r w
+begins : (script : List ℕ) (r : Begun) (w : Words) → BeginsAs (r .how) script r w → Begins script r w
 unfolding BeginsAs
-begins clocks script r w b =
-    let as-is : (h : Beginning) → r .how ≡ h → BeginsAs h clocks script r w = λ h q. subst (λ (x : Beginning). BeginsAs x clocks script r w) q b in
+begins script r w b =
+    let as-is : (h : Beginning) → r .how ≡ h → BeginsAs h script r w = λ h q. subst (λ (x : Beginning). BeginsAs x script r w) q b in
     record { fresh = as-is Fresh; refused = as-is Refused; bad = as-is Bad; nothing = as-is Nothing }
 
 -- what was read of it
-module _ (clocks : Bool) (script : List ℕ) (f : FirstLine) (starts : List ℕ) (is : SaysFirst clocks script f starts) where
-  read : (first : First) (n next : ℕ) → f ≡ Says first n next → StartAt clocks script first n next starts
-  read first n next e = rw e at is
+module _ (script : List ℕ) (f : FirstLine) (starts : List ℕ) (is : SaysFirst script f starts) where
+  read : (first : First) (next : ℕ) → f ≡ Says first next → StartAt script first next starts
+  read first next e = rw e at is
 
-  pub entries-there : (first : First) (n next : ℕ) → f ≡ Says first n next → n ≤ length starts
-  entries-there first n next e = read first n next e .read .there
-
-  pub entries-length : (first : First) (n next : ℕ) → f ≡ Says first n next → n ≡ length (take n starts)
-  entries-length first n next e = sym (length-take-le n starts (entries-there first n next e))
+  pub starts-sized : (first : First) (next : ℕ) → f ≡ Says first next → length starts ≡ 256
+  starts-sized first next e = read first next e .read .sized
 
   module _ (r : Begun) (w : Words) where
-    by-start : (first : First) (n next : ℕ) → StartAt clocks script first n next starts → (h : Beginning) → StartsAs h (saidWith first (take n starts)) next r w → BeginsAs h clocks script r w
+    by-start : (first : First) (next : ℕ) → StartAt script first next starts → (h : Beginning) → StartsAs h (startRead first starts) next r w → BeginsAs h script r w
     unfolding BeginsAs
-    by-start first n next p Fresh c =
+    by-start first next p Fresh c =
         let b = c .1 in
-        let a = saidWith first (take n starts) in
+        let a = startRead first starts in
         let q = p .read in
         record {
           line = p .line;
@@ -120,7 +117,7 @@ module _ (clocks : Bool) (script : List ℕ) (f : FirstLine) (starts : List ℕ)
           bytes = c .0 ∙ p .bytes;
           within = rw (c .0) (p .within);
         }
-    by-start first n next p Refused c =
+    by-start first next p Refused c =
         let q = p .read in
         record {
           line = p .line;
@@ -128,22 +125,22 @@ module _ (clocks : Bool) (script : List ℕ) (f : FirstLine) (starts : List ℕ)
           shows = p .shows;
           start = q .start;
           says = q .says;
-          refused = sym (refused-alike (saidWith first (take n starts)) (q .start) (q .same)) ∙ c;
-          some-bytes = omega (arith, said-bytes (startAs clocks) (p .line) (q .start) (q .says), p .within, p .bytes);
+          refused = sym (refused-alike (startRead first starts) (q .start) (q .same)) ∙ c;
+          some-bytes = omega (arith, said-bytes startOf (p .line) (q .start) (q .says), p .within, p .bytes);
         }
-    by-start first n next p Bad c = absurd c
-    by-start first n next p Nothing c = absurd c
+    by-start first next p Bad c = absurd c
+    by-start first next p Nothing c = absurd c
 
-    pub begins-start : (first : First) (n next : ℕ) → f ≡ Says first n next → StartedBy first (take n starts) next r w → Begins clocks script r w
-    begins-start first n next e c = begins clocks script r w (by-start first n next (read first n next e) (r .how) c)
+    pub begins-start : (first : First) (next : ℕ) → f ≡ Says first next → StartedBy first starts next r w → Begins script r w
+    begins-start first next e c = begins script r w (by-start first next (read first next e) (r .how) c)
 
-    by-how : (h : Beginning) → r .how ≡ h → BeginsAs h clocks script r w → Begins clocks script r w
-    by-how h q b = begins clocks script r w (subst (λ (x : Beginning). BeginsAs x clocks script r w) (sym q) b)
+    by-how : (h : Beginning) → r .how ≡ h → BeginsAs h script r w → Begins script r w
+    by-how h q b = begins script r w (subst (λ (x : Beginning). BeginsAs x script r w) (sym q) b)
 
-    pub begins-bad : f ≡ SaysNothing → r .how ≡ Bad → Begins clocks script r w
+    pub begins-bad : f ≡ SaysNothing → r .how ≡ Bad → Begins script r w
     unfolding BeginsAs
     begins-bad e h = by-how Bad h (rw e at is)
 
-    pub begins-none : f ≡ NoLine → r .how ≡ Nothing → Begins clocks script r w
+    pub begins-none : f ≡ NoLine → r .how ≡ Nothing → Begins script r w
     unfolding BeginsAs
     begins-none e h = by-how Nothing h (rw e at is)

@@ -1,7 +1,6 @@
 -- What the rules print, line by line, is the text of what a line came to.
 use Prim.Native.Nat.{ℕ}
 use mathlib.Core.Path.{_≡_, refl, ap, _∙_}
-use mathlib.Core.Bool.{false}
 use mathlib.Core.List.{List, [], _++_}
 use mathlib.Core.Option.{Option, none, some}
 use lib.ListN.{drop}
@@ -32,16 +31,16 @@ module _ {script : List ℕ} {at : ℕ} {s : State} {r : Walked} {w : Words} {gs
   traced = ap (trace s) (c .shows) ∙ ap (λ (p : Printing). p .text ++ trace (p .state) (lines (drop (r .next) script))) line-prints
 
 -- from the first line on
-module _ {script : List ℕ} {r : Begun} {w : Words} (f : FreshAt false script r w) where
+module _ {script : List ℕ} {r : Begun} {w : Words} (f : FreshAt script r w) where
   pub fresh-prints : program (lines script) ≡ outcomeText (quiet done (viewOf (r .state) w)) ++ trace (viewOf (r .state) w) (lines (drop (r .next) script))
   unfolding program start
   fresh-prints = rw (f .shows, f .says, f .begins .accepted, ← f .begins .view)
 
-pub refused-prints : {script : List ℕ} → RefusedAt false script → program (lines script) ≡ endLine (bytes "r12")
+pub refused-prints : {script : List ℕ} → RefusedAt script → program (lines script) ≡ endLine (bytes "r12")
 unfolding program
 refused-prints f = rw (f .shows, f .says, f .refused)
 
-pub bad-prints : {script : List ℕ} → BadAt false script → program (lines script) ≡ endLine (bytes "bad")
+pub bad-prints : {script : List ℕ} → BadAt script → program (lines script) ≡ endLine (bytes "bad")
 unfolding program
 bad-prints f = rw (f .shows, f .says)
 

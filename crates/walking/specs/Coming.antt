@@ -1,7 +1,7 @@
 -- What the lines of a script come to, by the rules and as answered.
 use Prim.Native.Nat.{ℕ, _+_, _≤_, _<_}
 use mathlib.Core.Path.{_≡_}
-use mathlib.Core.Bool.{Bool, true, false, cond}
+use mathlib.Core.Bool.{true, false, cond}
 use mathlib.Core.List.{List, [], _∷_}
 use mathlib.Core.Option.{Option, none, some, Option·map}
 use lib.ListN.{length, drop}
@@ -13,12 +13,12 @@ use Rattle.rules.specs.Sound.{Sound}
 use Rattle.rules.specs.Steps.{Outcome}
 use Rattle.rules.specs.Runs.{step}
 use Rattle.rules.specs.Text.{bytes, Line, lines}
-use Rattle.rules.specs.Script.{stepOf, said, endLine, outcomeText}
+use Rattle.rules.specs.Script.{startOf, stepOf, said, endLine, outcomeText}
 use Rattle.script.specs.declared.First.{First}
 use Rattle.state.specs.declared.BatchSemaphore.{BatchSemaphore}
 use Rattle.state.specs.View.{Words, viewOf, outcomeOf, ShapedAll, Fit}
 use Rattle.reading.specs.Steps.{lineBytes}
-use Rattle.reading.specs.Starts.{startAs, saidWith, BadAt}
+use Rattle.reading.specs.Starts.{startRead, BadAt}
 use Rattle.walking.specs.declared.Beginning.{Beginning}
 use Rattle.walking.specs.declared.Beginning.the-variants.{Fresh, Refused, Bad, Nothing}
 use Rattle.walking.specs.declared.Begun.{Begun}
@@ -53,8 +53,7 @@ pub record Comes (script : List ℕ) (at : ℕ) (s : State) (r : Walked) (w : Wo
   pub on : at < r .next
   pub within : r .next ≤ length script
 
--- THE FIRST LINE begins a fresh state, or is refused by 12, or says nothing; or there is none. It says a start in document 01's words, or
--- in ours, with starting clocks.
+-- THE FIRST LINE begins a fresh state, or is refused by 12, or says nothing; or there is none.
 
 -- with the start a
 pub record BeginsFresh (a : Start) (s : BatchSemaphore) (w : Words) : Type 0 where
@@ -69,30 +68,30 @@ StartsAs Refused a next r w = refuses12 a ≡ true
 StartsAs Bad a next r w = ⊥
 StartsAs Nothing a next r w = ⊥
 
--- a start with starting clocks
+-- with the start that was read, its clocks in words
 abbrev pub StartedBy : First → List ℕ → ℕ → Begun → Words → Type 0
-StartedBy first starts next r w = StartsAs (r .how) (saidWith first starts) next r w
+StartedBy first starts next r w = StartsAs (r .how) (startRead first starts) next r w
 
-pub record FreshAt (clocks : Bool) (script : List ℕ) (r : Begun) (w : Words) : Type 0 where
+pub record FreshAt (script : List ℕ) (r : Begun) (w : Words) : Type 0 where
   pub line : Line
   pub shows : lines script ≡ line ∷ lines (drop (r .next) script)
   pub start : Start
-  pub says : said (startAs clocks) line ≡ some start
+  pub says : said startOf line ≡ some start
   pub begins : BeginsFresh start (r .state) w
   pub bytes : r .next ≡ lineBytes line
   pub within : r .next ≤ length script
 
-pub record RefusedAt (clocks : Bool) (script : List ℕ) : Type 0 where
+pub record RefusedAt (script : List ℕ) : Type 0 where
   pub line : Line
   pub behind : List Line
   pub shows : lines script ≡ line ∷ behind
   pub start : Start
-  pub says : said (startAs clocks) line ≡ some start
+  pub says : said startOf line ≡ some start
   pub refused : refuses12 start ≡ true
   pub some-bytes : 0 < length script
 
-pub record Begins (clocks : Bool) (script : List ℕ) (r : Begun) (w : Words) : Type 0 where
-  pub fresh : r .how ≡ Fresh → FreshAt clocks script r w
-  pub refused : r .how ≡ Refused → RefusedAt clocks script
-  pub bad : r .how ≡ Bad → BadAt clocks script
+pub record Begins (script : List ℕ) (r : Begun) (w : Words) : Type 0 where
+  pub fresh : r .how ≡ Fresh → FreshAt script r w
+  pub refused : r .how ≡ Refused → RefusedAt script
+  pub bad : r .how ≡ Bad → BadAt script
   pub nothing : r .how ≡ Nothing → lines script ≡ []

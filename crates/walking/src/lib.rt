@@ -81,9 +81,10 @@ fn begin_with(
     makers: &mut [u32; 512],
     clocks: &mut [u32; 256],
 ) -> Begun
+    requires { ⌜ length (now starts) ≡ 256 ⌝ }
     ensures { λ r. ⌜ StartedBy first (now (starts .entry)) next r (words (now (slots .exit)) (now (tasks .exit)) (now (sizes .exit)) (now (rows .exit)) (now (last .exit)) (now (makers .exit)) (now (clocks .exit))) ⌝ }
 {
-    let r = starting::start_with(
+    let r = starting::start(
         first,
         starts,
         slots,
@@ -105,11 +106,9 @@ fn begin_with(
     }
 }
 
-// What the first line of a script comes to, in words that the caller lends, whatever stands in them. `clocked` lets starting clocks stand
-// in the line, as `reading::read_first` has them.
+// What the first line of a script comes to, in words that the caller lends, whatever stands in them.
 pub fn begin(
     script: &[u8],
-    clocked: bool,
     slots: &mut [u32; 320],
     tasks: &mut [u32; 32],
     sizes: &mut [u32; 64],
@@ -118,17 +117,13 @@ pub fn begin(
     makers: &mut [u32; 512],
     clocks: &mut [u32; 256],
 ) -> Begun
-    ensures { λ r. ⌜ Begins clocked (now (script .entry)) r (words (now (slots .exit)) (now (tasks .exit)) (now (sizes .exit)) (now (rows .exit)) (now (last .exit)) (now (makers .exit)) (now (clocks .exit))) ⌝ }
+    ensures { λ r. ⌜ Begins (now (script .entry)) r (words (now (slots .exit)) (now (tasks .exit)) (now (sizes .exit)) (now (rows .exit)) (now (last .exit)) (now (makers .exit)) (now (clocks .exit))) ⌝ }
 {
     let mut starts = [0u32; 256];
-    match reading::read_first(script, clocked, &mut starts) {
-        FirstLine::Is {
+    match reading::read_first(script, &mut starts) {
+        FirstLine::Is { first, next } => begin_with(
             first,
-            entries,
-            next,
-        } => begin_with(
-            first,
-            &starts[..entries],
+            &starts,
             next,
             slots,
             tasks,

@@ -1,4 +1,4 @@
-//! Lines that document 01 calls bad.
+//! Lines that are bad, and first lines that are refused.
 
 use crate::random::Random;
 
@@ -6,13 +6,36 @@ pub fn line(random: &mut Random) -> &'static str {
     random.pick(&LINES)
 }
 
-pub fn first_line(random: &mut Random) -> &'static str {
-    random.pick(&FIRST_LINES)
+pub fn first_line(random: &mut Random) -> String {
+    match random.chance(40) {
+        true => random.pick(&FIRST_LINES).to_string(),
+        false => wrong_clocks(random),
+    }
+}
+
+/// Starting clocks that are neither all nor none: one entry short, one too many, or another number of them.
+fn wrong_clocks(random: &mut Random) -> String {
+    let tasks: usize = random.pick(&[0, 1, 2, 3, 15, 16, 17]);
+    let all = tasks * tasks;
+    let mut entries = random.pick(&[all + 1, all.saturating_sub(1), tasks, 256]);
+    if entries == 0 || entries == all {
+        entries = all + 1;
+    }
+    let maker = random.pick(&["-", "0", "99"]);
+    with_entries(random, &format!("S 1 {maker} {tasks}"), entries)
 }
 
 /// Well formed, and refused with 12.
-pub fn refused_first_line(random: &mut Random) -> &'static str {
-    random.pick(&REFUSED_FIRST_LINES)
+pub fn refused_first_line(random: &mut Random) -> String {
+    match random.below(10) {
+        0 => with_entries(random, "S 1 - 17", 17 * 17),
+        1 => with_entries(random, "U 1 2 2", 2 * 2),
+        _ => random.pick(&REFUSED_FIRST_LINES).to_string(),
+    }
+}
+
+fn with_entries(random: &mut Random, line: &str, entries: usize) -> String {
+    (0..entries).fold(line.to_string(), |line, _| format!("{line} {}", random.below(3)))
 }
 
 const LINES: [&str; 35] = [
@@ -53,7 +76,7 @@ const LINES: [&str; 35] = [
     "F 0 1",
 ];
 
-const FIRST_LINES: [&str; 10] = [
+const FIRST_LINES: [&str; 16] = [
     "",
     "S",
     "S 1 0",
@@ -64,6 +87,12 @@ const FIRST_LINES: [&str; 10] = [
     "S 1 - -",
     "A 0 1",
     "S 4294967296 0 2",
+    "S 1 - 2 ",
+    "S 1 - 2 0 0 0 0 ",
+    "S 1 - 2 0 0 0 00",
+    "S 1 - 2 0 0 0 4294967296",
+    "S 1 - 2 0 x 0 0",
+    "S 0 - 2147483649 0",
 ];
 
 const REFUSED_FIRST_LINES: [&str; 6] = [

@@ -29,8 +29,6 @@ pub struct Wish {
     pub seed: u64,
     /// At most so many lines, the first one included.
     pub lines: usize,
-    /// Starting clocks other than zero in the first line.
-    pub clocks: bool,
 }
 
 pub fn script(wish: Wish) -> String {
@@ -43,7 +41,7 @@ pub fn script(wish: Wish) -> String {
         };
         return format!("{first}\nA 0 1\n");
     }
-    let fresh = fresh(&mut random, mood, wish.clocks);
+    let fresh = fresh(&mut random, mood, gives_clocks(wish.seed));
     let mut text = script::fresh_line(&fresh) + "\n";
     with_machine(&fresh, |machine| {
         steps(&mut text, &mut random, mood, machine, wish.lines)
@@ -52,6 +50,11 @@ pub fn script(wish: Wish) -> String {
         text.pop(); // a last line that nothing ends
     }
     text
+}
+
+/// The scripts of odd seeds give their starting clocks, those of even ones spawn: both ways are common.
+fn gives_clocks(seed: u64) -> bool {
+    seed % 2 == 1
 }
 
 /// So many steps from a start, all of them accepted, none of which ends a run: or as many as come before
@@ -101,8 +104,17 @@ fn fresh(random: &mut Random, mood: Mood, with_clocks: bool) -> Fresh {
         stock: stock as u32,
         maker: (!random.chance(30)).then(|| random.below(tasks) as u32),
         tasks: tasks as u32,
-        clocks: with_clocks.then(|| (0..tasks * tasks).map(|_| clock_entry(random)).collect()),
+        clocks: with_clocks.then(|| clocks(random, tasks)),
     }
+}
+
+/// Row by row. Row 0 is never column 0, so that taking columns for rows shows at once.
+fn clocks(random: &mut Random, tasks: usize) -> Vec<u32> {
+    let mut entries: Vec<u32> = (0..tasks * tasks).map(|_| clock_entry(random)).collect();
+    if tasks > 1 && entries[1] == entries[tasks] {
+        entries[1] ^= 1;
+    }
+    entries
 }
 
 fn clock_entry(random: &mut Random) -> u32 {

@@ -2,12 +2,16 @@
 
 use super::draw::{holds_up, runnable};
 use crate::random::Random;
+use crate::refusals::cannot_tick;
 use crate::state::{Kind, Request, State};
-use crate::step::{Act, Step, LARGEST, MOST_BATCHES};
+use crate::step::{Act, Step, LARGEST, MOST_BATCHES, SLOTS};
 
 /// One of the steps that the state offers, if it offers any. It is taken even if it is refused.
 pub fn step(random: &mut Random, state: &State) -> Option<Step> {
     let actors = runnable(state);
+    if let Some(step) = drop_at_the_largest(random, state, &actors) {
+        return Some(step);
+    }
     let mut acts: Vec<Act> = Vec::new();
     for (slot, request) in state.slots.iter().enumerate() {
         if let Some(request) = request {
@@ -23,6 +27,25 @@ pub fn step(random: &mut Random, state: &State) -> Option<Step> {
     Some(Step {
         actor: random.pick(&actors) as u32,
         act: random.pick(&acts),
+    })
+}
+
+/// A grant not yet polled, dropped by a task that cannot tick. Seldom, since what is refused is offered again.
+fn drop_at_the_largest(random: &mut Random, state: &State, actors: &[usize]) -> Option<Step> {
+    let lies = |request: &Request| request.holding && !request.completed;
+    let stuck = |actor: &usize| cannot_tick(state, *actor);
+    let actors: Vec<usize> = actors.iter().copied().filter(stuck).collect();
+    let slots: Vec<u32> = (0..SLOTS as u32)
+        .filter(|slot| state.in_use(*slot).is_some_and(lies))
+        .collect();
+    if actors.is_empty() || slots.is_empty() || !random.chance(10) {
+        return None;
+    }
+    Some(Step {
+        actor: random.pick(&actors) as u32,
+        act: Act::Drop {
+            slot: random.pick(&slots),
+        },
     })
 }
 

@@ -1,9 +1,13 @@
-//! A step with the states around it, and the questions that the list of situations asks about it.
+//! A step with the states around it and the start of its run, and the questions that the list of situations
+//! asks about it.
 
 use crate::state::{Kind, Request, State, Task};
-use crate::step::{Act, Answer, Outcome, Points, Step};
+use crate::step::{Act, Answer, Fresh, Outcome, Points, Step};
 
 pub struct Happening<'a> {
+    /// How the run started, and the state then.
+    pub fresh: &'a Fresh,
+    pub start: &'a State,
     pub before: &'a State,
     pub step: &'a Step,
     pub result: &'a Result<Outcome, u8>,

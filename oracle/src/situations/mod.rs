@@ -1,4 +1,4 @@
-//! What scripts reach: situations of document 01's rules, by name. They choose the recorded sample and
+//! What scripts reach: situations of the rules, by name. They choose the recorded sample and
 //! show what a run of generated scripts has left out; nothing is compared by them.
 
 mod ending;
@@ -6,6 +6,7 @@ mod happening;
 mod points;
 mod polling;
 mod refusing;
+mod starting;
 mod taking;
 mod waiting;
 
@@ -40,6 +41,7 @@ impl Tally {
 
 pub fn all() -> impl Iterator<Item = Situation> {
     let parts = [
+        starting::STARTING,
         taking::MAKING,
         taking::TAKING,
         taking::DIRECT,

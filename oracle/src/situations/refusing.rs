@@ -3,7 +3,7 @@
 use super::{Happening, Situation};
 use crate::state::Run;
 
-/// The refusals that a script from zero clocks can meet, each with its letter.
+/// The refusals that a step of a script can meet, each with its letter.
 pub const REFUSALS: &[Situation] = &[
     ("refused: 1 A", |h| refused(h, 1, "A")),
     ("refused: 1 B", |h| refused(h, 1, "B")),
@@ -40,6 +40,11 @@ pub const REFUSALS: &[Situation] = &[
     ("refused: 9 D", |h| refused(h, 9, "D")),
     ("refused: 10 L", |h| refused(h, 10, "L")),
     ("refused: 10 D", |h| refused(h, 10, "D")),
+    ("refused: 11 P", |h| refused(h, 11, "P")),
+    ("refused: 11 T", |h| refused(h, 11, "T")),
+    ("refused: 11 V", |h| refused(h, 11, "V")),
+    ("refused: 11 L", |h| refused(h, 11, "L")),
+    ("refused: 11 D", |h| refused(h, 11, "D")),
 ];
 
 fn refused(h: &Happening<'_>, number: u8, letters: &str) -> bool {

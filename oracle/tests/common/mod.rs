@@ -6,11 +6,18 @@ use oracle::tell::words;
 
 /// What is printed, with the whole states, for a script with `/` in the place of line feeds.
 pub fn whole(script: &str) -> String {
-    let options = Options {
-        state: true,
-        clocks: true,
-    };
-    run((script.replace('/', "\n") + "\n").as_bytes(), options).0
+    run((script.replace('/', "\n") + "\n").as_bytes(), Options { state: true }).0
+}
+
+/// The same script from clocks that are all zero, as document 01's runs have them.
+pub fn from_zeros(script: &str) -> String {
+    let (first, rest) = script.split_once('/').unwrap_or((script, ""));
+    let tasks: usize = first
+        .split(' ')
+        .nth(3)
+        .and_then(|tasks| tasks.parse().ok())
+        .expect("a task count");
+    format!("{first}{}/{rest}", " 0".repeat(tasks * tasks))
 }
 
 /// The printed lines, without the states.

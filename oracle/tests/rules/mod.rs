@@ -1,5 +1,6 @@
-//! Document 01's rules, written from its words alone over plain data, with its names. The Rust is held
-//! against this, which is the other half of the comparison: it shows where document and Rust part.
+//! Document 01's rules, and document 02's for the starting clocks, written from their words alone over plain
+//! data, with their names. The Rust is held against this, which is the other half of the comparison: it shows
+//! where document and Rust part.
 
 use oracle::state::{Clock, Kind, Request, Run, State, Task};
 use oracle::step::{Act, Answer, Fresh, Grant, Outcome, Points, Step, Taker, SLOTS};
@@ -8,14 +9,16 @@ use oracle::step::{Act, Answer, Fresh, Grant, Outcome, Points, Step, Taker, SLOT
 pub fn fresh(given: &Fresh) -> State {
     let tasks = given.tasks as usize;
     let zero: Clock = vec![0; tasks];
-    let zeros = vec![0; tasks * tasks];
-    let clocks = given.clocks.as_ref().unwrap_or(&zeros);
-    let task = |clock: &[u32]| Task {
+    let task = |clock: Clock| Task {
         run: Run::Runnable,
         woken: false,
-        clock: clock.to_vec(),
+        clock,
     };
-    let tasks: Vec<Task> = clocks.chunks(tasks).map(task).collect();
+    let clocks = match &given.clocks {
+        Some(entries) => entries.chunks(tasks).map(<[u32]>::to_vec).collect(),
+        None => spawned(tasks),
+    };
+    let tasks: Vec<Task> = clocks.into_iter().map(task).collect();
     let stock = given.stock as usize;
     let batches = given.maker.map(|maker| match stock {
         0 => vec![],
@@ -32,6 +35,17 @@ pub fn fresh(given: &Fresh) -> State {
         tasks,
         slots: vec![None; SLOTS],
     }
+}
+
+/// "Task 0 spawned the rest in number order, ticking once before each, each child starting with a copy of its
+/// clock then."
+fn spawned(tasks: usize) -> Vec<Clock> {
+    let mut clocks = vec![vec![0; tasks]];
+    for _child in 1..tasks {
+        clocks[0][0] += 1;
+        clocks.push(clocks[0].clone());
+    }
+    clocks
 }
 
 /// An accepted step: what it gives back, and the state after it.

@@ -7,8 +7,8 @@ use Rattle.measuring.proofs.run.Tie as tie
 first-requires : tie.Need-first-requires
 first-requires c κs = search needs
 
-start-requires : tie.Need-start-requires
-start-requires c κs = tt
+start-spawned-requires : tie.Need-start-spawned-requires
+start-spawned-requires c κs = tt
 
 run-calls-requires : tie.Need-run-calls-requires
 run-calls-requires c κs = search needs
@@ -27,7 +27,7 @@ run-spec =
     tie.close
     (tie.spec
     first-requires
-    start-requires
+    start-spawned-requires
     run-calls-requires
     returns
     run-steps-requires

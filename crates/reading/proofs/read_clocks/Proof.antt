@@ -2,7 +2,7 @@
 use borrow.Author.Needs.{needs}
 use lib.ListN.{length, drop}
 use Rattle.rules.specs.Text.{fields}
-use Rattle.reading.proofs.Numbers.{Along, along-none, less-left, along-bad, along-last, along-more}
+use Rattle.reading.proofs.Numbers.{Along, along-none, less-left, count-fits, along-bad, along-last, along-more}
 use Rattle.reading.proofs.read_clocks.Statement.{statement}
 use Rattle.reading.proofs.read_clocks.Tie as tie
 
@@ -22,10 +22,7 @@ enum-known-x : tie.Need-enum-known-x Inv-loop μ-loop
 enum-known-x c = search needs
 
 keep-requires : tie.Need-keep-requires Inv-loop μ-loop
-keep-requires c κs = search needs
-
-one-more-requires : tie.Need-one-more-requires Inv-loop μ-loop
-one-more-requires c κs = search needs
+keep-requires c κs = search (count-fits, needs)
 
 same-length : tie.Need-same-length Inv-loop μ-loop
 same-length c = search needs
@@ -37,10 +34,7 @@ enum-known-x-2 : tie.Need-enum-known-x-2 Inv-loop μ-loop
 enum-known-x-2 c = search needs
 
 keep-requires-2 : tie.Need-keep-requires-2 Inv-loop μ-loop
-keep-requires-2 c κs = search needs
-
-one-more-requires-2 : tie.Need-one-more-requires-2 Inv-loop μ-loop
-one-more-requires-2 c κs = search needs
+keep-requires-2 c κs = search (count-fits, needs)
 
 loop-less : tie.Need-loop-less Inv-loop μ-loop
 loop-less c = search (less-left, needs)
@@ -67,12 +61,10 @@ read-clocks-spec =
     number-at-requires
     enum-known-x
     keep-requires
-    one-more-requires
     same-length
     returns
     enum-known-x-2
     keep-requires-2
-    one-more-requires-2
     loop-less
     loop-again
     enum-told

@@ -1,6 +1,6 @@
 -- `walking::begin`: a start, or none.
 use borrow.Author.Needs.{needs}
-use Rattle.walking.proofs.Firsts.{entries-there, entries-length, begins-start, begins-bad, begins-none}
+use Rattle.walking.proofs.Firsts.{starts-sized, begins-start, begins-bad, begins-none}
 use Rattle.walking.proofs.begin.Statement.{statement}
 use Rattle.walking.proofs.begin.Tie as tie
 
@@ -10,14 +10,11 @@ read-first-requires c κs = search needs
 enum-known-first : tie.Need-enum-known-first
 enum-known-first c = search needs
 
-array-share-prefix-starts : tie.Need-array-share-prefix-starts
-array-share-prefix-starts c = search (entries-there, needs)
-
 slice-aggregate-begin-with : tie.Need-slice-aggregate-begin-with
-slice-aggregate-begin-with c = search (entries-length, needs)
+slice-aggregate-begin-with c = search (starts-sized, needs)
 
 begin-with-requires : tie.Need-begin-with-requires
-begin-with-requires c κs = search needs
+begin-with-requires c κs = search (starts-sized, needs)
 
 enum-told : tie.Need-enum-told
 enum-told c = search needs
@@ -46,7 +43,6 @@ begin-spec =
     (tie.spec
     read-first-requires
     enum-known-first
-    array-share-prefix-starts
     slice-aggregate-begin-with
     begin-with-requires
     enum-told

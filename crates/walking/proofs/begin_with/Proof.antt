@@ -4,8 +4,8 @@ use Rattle.walking.proofs.Firsts.{start-refused, start-accepted}
 use Rattle.walking.proofs.begin_with.Statement.{statement}
 use Rattle.walking.proofs.begin_with.Tie as tie
 
-start-with-requires : tie.Need-start-with-requires
-start-with-requires c κs = search needs
+start-requires : tie.Need-start-requires
+start-requires c κs = search needs
 
 unbegun-requires : tie.Need-unbegun-requires
 unbegun-requires c κs = search needs
@@ -17,4 +17,4 @@ returns-2 : tie.Need-returns-2
 returns-2 c = search (start-accepted, needs)
 
 pub begin-with-spec : {M : Type 1} → statement M
-begin-with-spec = tie.close (tie.spec start-with-requires unbegun-requires returns returns-2)
+begin-with-spec = tie.close (tie.spec start-requires unbegun-requires returns returns-2)

@@ -2,6 +2,7 @@
 
 use crate::runtime::task::clock::VectorClock;
 use crate::runtime::task::{Task, TaskId};
+use crate::runtime::thread;
 use crate::sync_types::{ResourceSignature, ResourceType};
 use std::cell::RefCell;
 use std::rc::Rc;
@@ -146,6 +147,69 @@ impl ExecutionState {
         Self::with(|s| s.current().id())
     }
 
+    /// Of runtime/execution.rs, lines 946-983, what concerns the new task's number and clock.
+    pub fn spawn_main_thread() -> TaskId {
+        // Taken: runtime/execution.rs 952-952
+        let mut clock = VectorClock::new();
+        Self::with(|state| {
+            // Taken: runtime/execution.rs 956-956
+            let task_id = TaskId(state.tasks.len());
+            // Taken: runtime/execution.rs 961-961
+            clock.extend(task_id); // and extend it with an entry for the new thread
+            let task = Task::new(task_id, clock);
+            // Taken: runtime/execution.rs 977-979
+            state.add_task(task);
+
+            task_id
+        })
+    }
+
+    /// Of runtime/execution.rs, lines 989-1030, the point, and what concerns the new task's number and clock.
+    pub fn spawn_future() -> TaskId {
+        // Taken: runtime/execution.rs 998-998
+        thread::switch();
+        Self::with(|state| {
+            // Taken: runtime/execution.rs 1003-1003
+            let task_id = TaskId(state.tasks.len());
+            // Taken: runtime/execution.rs 1008-1009
+            let clock = state.increment_clock_mut(); // Increment the parent's clock
+            clock.extend(task_id); // and extend it with an entry for the new task
+            let task = Task::new(
+                task_id,
+                // Taken: runtime/execution.rs 1016-1016
+                clock.clone(),
+            );
+            // Taken: runtime/execution.rs 1024-1026
+            state.add_task(task);
+
+            task_id
+        })
+    }
+
+    /// Of runtime/execution.rs, lines 1034-1076, the point, and what concerns the new task's number and clock.
+    pub fn spawn_thread(mut initial_clock: Option<VectorClock>) -> TaskId {
+        // Taken: runtime/execution.rs 1041-1041
+        thread::switch();
+        Self::with(|state| {
+            // Taken: runtime/execution.rs 1044-1044
+            let task_id = TaskId(state.tasks.len());
+            // Taken: runtime/execution.rs 1049-1056
+            let clock = if let Some(ref mut clock) = initial_clock {
+                clock
+            } else {
+                // Inherit the clock of the parent thread (which spawned this task)
+                state.increment_clock_mut()
+            };
+            clock.extend(task_id); // and extend it with an entry for the new thread
+            let clock = clock.clone();
+            let task = Task::new(task_id, clock);
+            // Taken: runtime/execution.rs 1070-1072
+            state.add_task(task);
+
+            task_id
+        })
+    }
+
     // Taken: runtime/execution.rs 1916-1918
     pub fn should_stop() -> bool {
         Self::try_with(|s| s.is_abandoned()).unwrap_or(true)
@@ -175,6 +239,12 @@ impl ExecutionState {
         self.try_get(id).unwrap()
     }
 
+    /// Of runtime/execution.rs, lines 1995-2001, without the list of live tasks.
+    fn add_task(&mut self, task: Task) {
+        // Taken: runtime/execution.rs 2000-2000
+        self.tasks.push(task);
+    }
+
     // Taken: runtime/execution.rs 2021-2027
     pub fn get_mut(&mut self, id: TaskId) -> &mut Task {
         self.tasks.get_mut(id.0).unwrap()
@@ -189,7 +259,7 @@ impl ExecutionState {
         ResourceSignature::new_const(resource_type)
     }
 
-    // Taken: runtime/execution.rs 2065-2077
+    // Taken: runtime/execution.rs 2065-2084
     /// Increment the current thread's clock entry and update its clock with the one provided.
     pub fn update_clock(&mut self, clock: &VectorClock) {
         let task = self.current_mut();
@@ -202,5 +272,12 @@ impl ExecutionState {
         let task = self.current_mut();
         task.clock.increment(task.id);
         &task.clock
+    }
+
+    /// Increment the current thread's clock and return a mutable reference to it
+    pub fn increment_clock_mut(&mut self) -> &mut VectorClock {
+        let task = self.current_mut();
+        task.clock.increment(task.id);
+        &mut task.clock
     }
 }

@@ -5,25 +5,16 @@ use Rattle.replay.proofs.sample.replay_all.Statement.{statement}
 use Rattle.replay.proofs.sample.replay_all.Tie as tie
 
 abbrev Inv-loop : tie.InvT-loop
-Inv-loop t₀ number₀ t3 t4 t number = Unit {0}
+Inv-loop t₀ number₀ t number = Unit {0}
 
 abbrev μ-loop : tie.MeasureT-loop
-μ-loop t₀ number₀ t3 t4 t number = 1000 - number
+μ-loop t₀ number₀ t number = 1000 - number
 
 loop-holds : tie.Need-loop-holds Inv-loop μ-loop
 loop-holds c = search needs
 
-slice-aggregate-replay : tie.Need-slice-aggregate-replay Inv-loop μ-loop
-slice-aggregate-replay c = search needs
-
 replay-requires : tie.Need-replay-requires Inv-loop μ-loop
 replay-requires c κs = search needs
-
-slice-aggregate-replay-2 : tie.Need-slice-aggregate-replay-2 Inv-loop μ-loop
-slice-aggregate-replay-2 c = search needs
-
-replay-requires-2 : tie.Need-replay-requires-2 Inv-loop μ-loop
-replay-requires-2 c κs = search needs
 
 add-number : tie.Need-add-number Inv-loop μ-loop
 add-number c = search needs
@@ -44,10 +35,7 @@ replay-all-spec =
     Inv-loop
     μ-loop
     loop-holds
-    slice-aggregate-replay
     replay-requires
-    slice-aggregate-replay-2
-    replay-requires-2
     add-number
     loop-less
     loop-again

@@ -31,6 +31,9 @@ pub struct Task {
 impl Task {
     /// As in `Task::new`, runtime/task/mod.rs, lines 412-432: Runnable and not woken.
     pub(super) fn new(id: TaskId, clock: VectorClock) -> Self {
+        // Taken: runtime/task/mod.rs 398-399
+        #[cfg(all(any(test, feature = "vector-clocks"), not(feature = "bench-no-vector-clocks")))]
+        assert!(id.0 < clock.time.len());
         Self {
             id,
             state: TaskState::Runnable,
