@@ -1,4 +1,6 @@
 // A task's record, lent and altered where it stands: each function calls the one on the value that crate records proves.
+#![tactic(auto)]
+
 ghost use Rattle.std.specs.Prelude.{◌≡◌};
 ghost use Rattle.splitting.specs.Plain.{blocked, unblocked, wakened};
 ghost use Rattle.records.specs.View.{task_seen};

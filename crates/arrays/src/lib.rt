@@ -1,6 +1,8 @@
 // The calls with all words by value, for what need not be quick. What tries wrong answers against their contracts is checked many times,
 // and a function that is lent eight arrays takes several seconds to check, where one that has them by value takes half of one; and what
 // writes our side of the comparison is the shorter for it.
+#![tactic(auto)]
+
 ghost use Rattle.std.specs.Prelude.{◌≡◌};
 ghost use Rattle.std.proofs.Math.Option.{none, some};
 ghost use Rattle.rules.specs.Runs.{start};
@@ -15,7 +17,7 @@ use rules::{Act, Fairness, Question, Step, TaskId};
 use state::{BatchSemaphore, Stepped};
 
 // All that a call is lent, in its order.
-#[derive(Drop)]
+#[derive(Clone, Copy)]
 pub struct Arrays {
     pub slots: [u32; 320],
     pub tasks: [u32; 32],
@@ -28,14 +30,14 @@ pub struct Arrays {
 }
 
 // What a call answers, and what it leaves in the arrays.
-#[derive(Drop)]
+#[derive(Clone, Copy)]
 pub struct Came {
     pub stepped: Stepped,
     pub arrays: Arrays,
 }
 
 // A start, and what it leaves in the arrays.
-#[derive(Drop)]
+#[derive(Clone, Copy)]
 pub struct StartedArrays {
     pub started: Started,
     pub arrays: Arrays,

@@ -1,5 +1,7 @@
 // The batches of a semaphore, after `PermitClocks` of Shuttle's future/batch_semaphore.rs: where the ring stands by value; sizes, clocks
 // and the clock of the last taking in arrays that the caller lends.
+#![tactic(auto)]
+
 ghost use Rattle.std.specs.Prelude.{◌≡◌, false, not, ◌||◌, List, ◌∷◌, [], ◌++◌, ℕ, ◌+◌, ◌*◌, ◌≤◌, ◌<◌, eqb, length};
 ghost use Rattle.std.proofs.Math.Seq.{paste};
 ghost use Rattle.rules.specs.Sizes.{batch_count, width};
@@ -15,28 +17,28 @@ ghost use Rattle.batches.specs.Broken.{permits_of, broken_batches};
 use clock::VectorClock;
 
 // Where the batches stand in the ring of 64 places: the size and the clock of the batch at place p are sizes[p] and row p of rows.
-#[derive(Drop)]
+#[derive(Clone, Copy)]
 pub struct PermitClocks {
     pub head: u32,
     pub count: u32,
 }
 
 // Set up or not; not set up, the ring is no part of the state.
-#[derive(Drop)]
+#[derive(Clone, Copy)]
 pub struct Batches {
     pub ready: bool,
     pub permit_clocks: PermitClocks,
 }
 
 // The ring that is left, and the join of the clocks of the batches touched.
-#[derive(Drop)]
+#[derive(Clone, Copy)]
 struct Consumed {
     pub permit_clocks: PermitClocks,
     pub clock: VectorClock,
 }
 
 // The batches after a taking, and the clock that its taker joins.
-#[derive(Drop)]
+#[derive(Clone, Copy)]
 pub struct Eaten {
     pub batches: Batches,
     pub clock: VectorClock,

@@ -1,4 +1,6 @@
 // Refusal 14: whether what is handed in is broken, for any value of every field and any lent words.
+#![tactic(auto)]
+
 ghost use Rattle.std.specs.Prelude.{◌≡◌, Bool, false, not, ◌&&◌, ◌||◌, List, ℕ, ◌+◌, ◌*◌, ◌≤◌, ◌<◌, ltb, length, get_or};
 ghost use Rattle.rules.specs.Sizes.{slot_count, max_tasks};
 ghost use Rattle.rules.specs.Refusals.{bad_reserving};

@@ -1,5 +1,7 @@
 // Many scripts in one bundle: document 02, No. 1. First the contents (the count, and for each script its name, offset and length), then
 // the bodies in that order with no gaps. What a bundle is stands in `bundle_rules`.
+#![tactic(auto)]
+
 mod names;
 mod numbers;
 mod reading;
@@ -24,14 +26,14 @@ pub const ROW_64: u64 = ROW as u64;
 
 pub const ROW_32: u32 = ROW as u32;
 
-#[derive(Drop)]
+#[derive(Clone, Copy)]
 pub enum Verdict {
     Good,
     Refused(Refusal),
 }
 
 // How many scripts, their names one behind the other, and their lengths. Offsets follow from them.
-#[derive(Drop)]
+#[derive(Clone, Copy)]
 pub struct Contents {
     pub count: u32,
     pub names: [u8; 4096],
@@ -39,14 +41,14 @@ pub struct Contents {
 }
 
 // What the reader answers; where it refuses, the contents mean nothing.
-#[derive(Drop)]
+#[derive(Clone, Copy)]
 pub struct BundleRead {
     pub verdict: Verdict,
     pub contents: Contents,
 }
 
 // What the writer answers: how many bytes it wrote, or why it wrote none.
-#[derive(Drop)]
+#[derive(Clone, Copy)]
 pub enum Written {
     Wrote(usize),
     Not(Refusal),

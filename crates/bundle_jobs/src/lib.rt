@@ -1,4 +1,6 @@
 // What `semtrace` does with bundles: their scripts run, their contents listed, and a file's name in one.
+#![tactic(auto)]
+
 ghost use Rattle.std.specs.Prelude.{◌*◌, ◌≤◌, length};
 ghost use Rattle.text.specs.Writing.{Appended};
 ghost use Rattle.rules.specs.Script.{byte_room};

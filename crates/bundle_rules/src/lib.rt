@@ -1,8 +1,10 @@
 // Document 02, No. 1: what a bundle is, as definitions, and all that is proved about them alone. There is no code but for the refusals.
+#![tactic(auto)]
+
 ghost use Rattle.std.specs.Prelude.{◌≡◌};
 ghost use Rattle.bundle_rules.specs.Reading.{number_of};
 
-#[derive(Drop)]
+#[derive(Clone, Copy)]
 pub enum Refusal {
     CutShort,
     TooMany,

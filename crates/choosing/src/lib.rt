@@ -1,5 +1,7 @@
 // What a step comes to, decided before anything is done: after the source's `acquire_permits`, `poll`, `poll_reserving` and `Drop` of
 // `Acquire`. Slots are only read, and tasks are not looked at.
+#![tactic(auto)]
+
 ghost use Rattle.std.specs.Prelude.{◌≡◌, false, ◌&&◌, List, ℕ, ◌*◌, ◌-◌, ◌≤◌, length, get_or};
 ghost use Rattle.std.proofs.Math.Option.{none};
 ghost use Rattle.rules.specs.Sizes.{slot_count};
@@ -20,7 +22,7 @@ use rules::{Ask, Direct, Dropping, Polled, Polling, Priority, Slot};
 
 // What a step comes to. A made request's `slot` is the lowest free one; `asked` is what the polled request asks for, `back` what the drop
 // gives back.
-#[derive(Drop)]
+#[derive(Clone, Copy)]
 pub enum Choice {
     Makes {
         slot: usize,

@@ -1,11 +1,13 @@
 // Vector clocks (Fidge and Mattern), after Shuttle's runtime/task/clock.rs: an entry for each task.
+#![tactic(auto)]
+
 ghost use Rattle.std.specs.Prelude.{◌≡◌, ◌<◌, max, get_or};
 ghost use Rattle.rules.specs.Sizes.{width, largest};
 ghost use Rattle.rules.specs.Clock.{join, tick, empty};
 
 use rules::TaskId;
 
-#[derive(Drop)]
+#[derive(Clone, Copy)]
 pub struct VectorClock(pub [u32; 16]);
 
 // The larger of two entries.

@@ -1,4 +1,6 @@
 // Closing, which is not waking: nobody waits any more, and whoever did is woken.
+#![tactic(auto)]
+
 ghost use Rattle.splitting.specs.Who.{empty_queue, drop_reservation, closing};
 ghost use Rattle.queue.specs.View.{waiters_of, reservation_of};
 ghost use Rattle.head.specs.View.{plain_of, Shaped, Shows};

@@ -1,5 +1,7 @@
 // What a step does that moves permits, the queue or the reservation, once it is decided what it comes to: the effect of each decision, on
 // a head by value and lent words. The steps that leave the head as it is are resting's.
+#![tactic(auto)]
+
 ghost use Rattle.std.specs.Prelude.{◌≡◌, true, false, cond, ◌*◌, ◌≤◌, ◌<◌, length};
 ghost use Rattle.std.proofs.Math.Option.{none, some};
 ghost use Rattle.rules.specs.declared.Direct.TheVariants.{Take};

@@ -1,5 +1,7 @@
 // Runs that no short script reaches; then each script or bundle that the arguments name, comparing what it prints with the text that stands
 // in the file behind it: what a bundle's list says, if that file's name ends so.
+#![tactic(auto)]
+
 ghost use Rattle.std.specs.Prelude.{◌≤◌};
 ghost use Rattle.io.specs.Counts.{IsPrefixLen};
 

@@ -1,4 +1,6 @@
 // Fresh states: `new` with a maker and `const_new` with none; refusal 12. The caller lends all words, whatever stands in them.
+#![tactic(auto)]
+
 ghost use Rattle.std.specs.Prelude.{◌≡◌, true, false, ◌||◌, List, ◌++◌, ℕ, ◌+◌, ◌-◌, ◌*◌, ◌≤◌, ◌<◌, leb, length, take, drop};
 ghost use Rattle.std.proofs.Math.Option.{none, some};
 ghost use Rattle.rules.specs.Sizes.{max_tasks, slot_count, width};
@@ -21,7 +23,7 @@ use rules::{Fairness, TaskId};
 use state::BatchSemaphore;
 
 // Whether 12 refused the start, and the state.
-#[derive(Drop)]
+#[derive(Clone, Copy)]
 pub struct Started {
     pub refused: bool,
     pub state: BatchSemaphore,

@@ -1,4 +1,6 @@
 // What is by value of who gets permits, after the source's `BatchSemaphoreState`: slots and tasks stand in words that the caller lends.
+#![tactic(auto)]
+
 ghost use Rattle.std.specs.Prelude.{◌≡◌, cond, length};
 ghost use Rattle.rules.specs.State.{is_strict};
 ghost use Rattle.queue.specs.View.{waiters_of};
@@ -7,7 +9,7 @@ use queue::{Reservation, Waiters};
 use replies::Reply;
 use rules::Fairness;
 
-#[derive(Drop)]
+#[derive(Clone, Copy)]
 pub struct Head {
     pub fairness: Fairness,
     pub closed: bool,
@@ -18,14 +20,14 @@ pub struct Head {
 }
 
 // A head after some grants, and how many they are; the grants stand in words of their own.
-#[derive(Drop)]
+#[derive(Clone, Copy)]
 pub struct Granting {
     pub head: Head,
     pub count: usize,
 }
 
 // What a step answers: its reply, how many grants, and the head.
-#[derive(Drop)]
+#[derive(Clone, Copy)]
 pub struct Answered {
     pub reply: Reply,
     pub count: usize,

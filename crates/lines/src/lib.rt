@@ -1,10 +1,12 @@
 // A script's bytes with a place in them: the line reader. Its functions are thin, and leave the work to functions on the bytes and the place.
+#![tactic(auto)]
+
 ghost use Rattle.std.specs.Prelude.{◌≡◌};
 ghost use Rattle.text.specs.Reading.{NextIs};
 
 use text::NextLine;
 
-#[derive(Drop)]
+#[derive(Clone, Copy)]
 pub struct Lines<'a> {
     pub src: &'a [u8],
     pub at: usize,

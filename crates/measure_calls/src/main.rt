@@ -1,4 +1,6 @@
 // The steps on standard input, each by a public call: the second column of `bench/run`.
+#![tactic(auto)]
+
 fn main() {
     measuring::run_all(true);
 }

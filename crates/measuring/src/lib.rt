@@ -1,6 +1,8 @@
 // Runs the steps that stand on standard input, in records of eight bytes, and prints a sum of the replies: our side of `bench/run`. The
 // first record is the start. All is read before the first step. Two ways: 14 tested once for the run, or by a public call for each step;
 // a program of its own for each, since a step that is called from one place alone is compiled into it.
+#![tactic(auto)]
+
 ghost use Rattle.std.specs.Prelude.{◌+◌, ◌<◌, ◌≤◌, length};
 ghost use Rattle.state.specs.View.{words, Fit};
 

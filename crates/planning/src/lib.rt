@@ -1,6 +1,8 @@
 // What is decided of a step before anything is done, in one pass over the act: the first number of document 01's table that refuses it,
 // how many permits it gives back, whether the actor would tick, and what it comes to. 14 comes before all of these; 9 and 11, which come
 // last, belong to the clocks.
+#![tactic(auto)]
+
 ghost use Rattle.std.specs.Prelude.{◌≡◌, true, false, ◌&&◌, List, [], ◌∷◌, ℕ, ◌+◌, ◌*◌, ◌≤◌, leb, ltb, length, get_or};
 ghost use Rattle.std.proofs.Math.Option.{none};
 ghost use Rattle.rules.specs.declared.Slot.{Slot as SlotRule};
@@ -24,7 +26,7 @@ use replies::{Check, Refusal};
 use rules::{Act, Ask, Priority, Slot, TaskId};
 
 // What was decided of a step.
-#[derive(Drop)]
+#[derive(Clone, Copy)]
 pub struct Plan {
     pub check: Check,
     pub back: u32,

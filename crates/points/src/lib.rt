@@ -1,4 +1,6 @@
 // Whether a scheduling point comes before a step: questions that change nothing, in the place of the source's `thread::switch`.
+#![tactic(auto)]
+
 ghost use Rattle.std.specs.Prelude.{◌≡◌, List, ℕ, ◌*◌, length, get_or};
 ghost use Rattle.std.proofs.Math.Option.{none};
 ghost use Rattle.rules.specs.declared.Slot.{Slot as SlotRule};
@@ -20,7 +22,7 @@ use rules::{Question, Slot, TaskId};
 use state::BatchSemaphore;
 
 // Whether a point comes, or why the question is refused.
-#[derive(Drop)]
+#[derive(Clone, Copy)]
 pub enum Told {
     Point(bool),
     Refused(Refusal),

@@ -1,4 +1,6 @@
 // The line that a step prints: its reply, what the state shows, and its grants.
+#![tactic(auto)]
+
 ghost use Rattle.std.specs.Prelude.{◌≡◌, List, ◌∷◌, ◌++◌, [], ℕ, ◌+◌, ◌*◌, ◌≤◌, ◌<◌, length};
 ghost use Rattle.rules.specs.Sizes.{slot_count};
 ghost use Rattle.rules.specs.Text.{space, comma, digits};
@@ -16,7 +18,7 @@ use replies::Reply;
 const TRY: u32 = 256;
 
 // What a line shows of the state: available, stock, closed or not, queue length.
-#[derive(Drop)]
+#[derive(Clone, Copy)]
 pub struct Counts {
     pub available: u32,
     pub stock: u32,

@@ -1,1 +1,2 @@
 // No code: what holds over any calls on lent words, from the contracts of the calls alone (specs/, proofs/).
+#![tactic(auto)]

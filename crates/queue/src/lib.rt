@@ -1,5 +1,7 @@
 // Who waits, by slot number: the queue, after the source's `VecDeque<Arc<Waiter>>`, and the reservation, after its
 // `Option<Arc<Waiter>>`.
+#![tactic(auto)]
+
 ghost use Rattle.std.specs.Prelude.{◌≡◌, [], ◌∷◌, ◌++◌, ◌+◌, ◌-◌, ◌≤◌, ◌<◌, length, get_or, take, drop};
 ghost use Rattle.std.proofs.Math.Option.{none, some};
 ghost use Rattle.rules.specs.State.{is_the};
@@ -8,14 +10,14 @@ ghost use Rattle.queue.specs.View.{waiters_of, slot0, index_of, remove_at, Holds
 
 use rules::Slot;
 
-#[derive(Drop)]
+#[derive(Clone, Copy)]
 pub struct Waiters {
     pub slots: [Slot; 32],
     pub len: u32,
 }
 
 // The slot that has the reservation, if one was made.
-#[derive(Drop)]
+#[derive(Clone, Copy)]
 pub struct Reservation {
     pub made: bool,
     pub slot: Slot,

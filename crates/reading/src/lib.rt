@@ -1,4 +1,6 @@
 // What the lines of a script say, one by one: the first line a start, each other line a step. Whoever goes through a script reads it here.
+#![tactic(auto)]
+
 ghost use Rattle.std.specs.Prelude.{◌≡◌, ◌+◌, ◌*◌, ◌^◌, ◌≤◌, ◌<◌, eqb, length, set};
 ghost use Rattle.rules.specs.Script.{start_of};
 ghost use Rattle.script.specs.declared.Parsed.TheVariants.{Bad};
@@ -11,14 +13,14 @@ use script::{First, Opening, Parsed};
 use text::{NextLine, Reading};
 
 // What a line says, and where the next line starts.
-#[derive(Drop)]
+#[derive(Clone, Copy)]
 pub struct ReadLine {
     pub said: Parsed,
     pub next: usize,
 }
 
 // What the first line says: a start, and where the next line starts; or nothing; or that there is none.
-#[derive(Drop)]
+#[derive(Clone, Copy)]
 pub enum FirstLine {
     Is { first: First, next: usize },
     Bad,
@@ -26,7 +28,7 @@ pub enum FirstLine {
 }
 
 // What was read of starting clocks: how many entries, or that one of them is no number.
-#[derive(Drop)]
+#[derive(Clone, Copy)]
 pub enum Clocks {
     Are(usize),
     Bad,

@@ -1,5 +1,7 @@
 // A task's record and a request's, by value and without clocks, after Shuttle's runtime/task/mod.rs and the source's `Waiter` and
 // `Acquire`; how each is changed.
+#![tactic(auto)]
+
 ghost use Rattle.std.specs.Prelude.{◌≡◌, false};
 ghost use Rattle.std.proofs.Math.Option.{none, some};
 ghost use Rattle.rules.specs.Task.{is_runnable, is_finished, roused};
@@ -10,14 +12,14 @@ ghost use Rattle.records.specs.View.{task_seen, seen, Stands, Changed, marking};
 
 use rules::{Ask, Priority, TaskId, TaskState};
 
-#[derive(Drop)]
+#[derive(Clone, Copy)]
 pub struct Task {
     pub state: TaskState,
     pub woken: bool,
 }
 
 // `task` is a word as it was handed in: it need not name a task.
-#[derive(Drop)]
+#[derive(Clone, Copy)]
 pub struct Request {
     pub used: bool,
     pub ask: Ask,
@@ -200,7 +202,7 @@ pub fn upgrade_ask(strictly_fair: bool, num_permits: u32) -> Ask
 }
 
 // What a step does to a request's marks.
-#[derive(Drop)]
+#[derive(Clone, Copy)]
 pub enum Marking {
     Joins,
     Leaves,

@@ -1,5 +1,7 @@
 // Our side of the comparison with the Rust. With no argument it replays the recorded scripts, which stand beside it;
 // `one` prints the whole state after each line of a script, `many` of many scripts.
+#![tactic(auto)]
+
 mod bytes;
 mod sample;
 mod states;

@@ -4,7 +4,7 @@ use crate::walk;
 use std::num::wrapping_add_u64;
 
 // What was compared; and of the last script how many lines, and where the text for the last of them begins.
-#[derive(Drop)]
+#[derive(Clone, Copy)]
 struct Tally {
     pub scripts: u64,
     pub steps: u64,

@@ -14,14 +14,14 @@ use walking::{Beginning, Begun};
 pub const ROOM: usize = 131072;
 
 // After a line: what it came to, and where its text ends.
-#[derive(Drop)]
+#[derive(Clone, Copy)]
 struct Turn {
     pub came: Came,
     pub end: usize,
 }
 
 // After the first line, and the words it was begun in.
-#[derive(Drop)]
+#[derive(Clone, Copy)]
 struct Opened {
     pub begun: Begun,
     pub arrays: Arrays,

@@ -1,4 +1,6 @@
 // What a call replies: document 01's answers, and its refusals by name.
+#![tactic(auto)]
+
 ghost use Rattle.std.specs.Prelude.{◌≡◌, not};
 ghost use Rattle.rules.specs.State.{is_some};
 ghost use Rattle.replies.specs.Answers.{number_of, given};
@@ -6,7 +8,7 @@ ghost use Rattle.replies.specs.Answers.{number_of, given};
 use rules::Slot;
 
 // A refusal, named; document 01's number for each is `number`.
-#[derive(Drop)]
+#[derive(Clone, Copy)]
 pub enum Refusal {
     NoSuchTask,
     NotRunnable,
@@ -23,13 +25,13 @@ pub enum Refusal {
 }
 
 // Whether a step is refused, and why.
-#[derive(Drop)]
+#[derive(Clone, Copy)]
 pub enum Check {
     Accepted,
     Refused(Refusal),
 }
 
-#[derive(Drop)]
+#[derive(Clone, Copy)]
 pub enum Reply {
     Done,
     Granted,

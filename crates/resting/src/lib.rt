@@ -1,5 +1,7 @@
 // What is done by the steps that leave the head as it is: makings, polls that change only marks, failed tries, drops of what neither waits
 // nor holds, sleeps and finishes. They are apart for speed: nothing by value has to be put together anew.
+#![tactic(auto)]
+
 ghost use Rattle.std.specs.Prelude.{◌≡◌, List, ℕ, ◌*◌, ◌≤◌, ◌<◌, length};
 ghost use Rattle.rules.specs.Sizes.{max_tasks, slot_count};
 ghost use Rattle.rules.specs.declared.TaskId.{TaskId};
@@ -14,7 +16,7 @@ use rules::{Ask, Direct, Dropping, Polling, Slot, TaskId};
 
 // The reply of a step that leaves the head as it is; or that nothing is done yet, because the step moves permits, the queue or the
 // reservation.
-#[derive(Drop)]
+#[derive(Clone, Copy)]
 pub enum Rest {
     Moves,
     Rests(Reply),

@@ -1,4 +1,6 @@
 // Who is woken and who is blocked again, after the source's functions: waking the unfair, reblocking, cancelling a reservation.
+#![tactic(auto)]
+
 ghost use Rattle.std.specs.Prelude.{◌≡◌, not, ◌&&◌, ◌||◌, ◌*◌, ◌≤◌, ltb, eqb, length};
 ghost use Rattle.std.proofs.Math.Option.{none};
 ghost use Rattle.rules.specs.Sizes.{max_tasks, slot_count};
@@ -16,7 +18,7 @@ use records::{Request, Task};
 use rules::{Slot, TaskId};
 
 // What happens to the task of a queued request, unless it is finished.
-#[derive(Drop)]
+#[derive(Clone, Copy)]
 pub enum Change {
     // It is woken: everybody may go on.
     Wake,

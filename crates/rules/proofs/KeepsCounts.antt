@@ -39,7 +39,7 @@ use Rattle.rules.proofs.Eaches.{each_member, each_append, each_set, each_at, eac
 use Rattle.rules.proofs.Tasks.{rouse_awake, by_cleared, rouse_unfair, rouse_unfinished, reblocks}
 use Rattle.rules.proofs.KeepsScan.{by_walk}
 use Rattle.rules.proofs.Accepting.{Releasable, MayTick, Allowed, accepted, startable}
-use Rattle.rules.proofs.Acting.{by_asking, asks-fit}
+use Rattle.rules.proofs.Acting.{AskFits, by_asking, asks-fit}
 use Rattle.rules.proofs.Decisions.{by_release, by_drop-queued}
 use Rattle.rules.proofs.KeepsSteps.{by_closing, by_refusal, fresh-number, sound-step, sound-fresh}
 use Rattle.rules.proofs.Counts.{first_fits, join-fits, tick-fits, empty-fits, taking-fits, adding-fits, Counted, counted-roused, task-fits, counted-task, counted-slots, slots-altered, counted-permits, request-fits}
@@ -202,7 +202,7 @@ module _ (n : ℕ) where
   counted_act : (t : TaskId) (a : Act) (s : State) → t.0 < n → Allowed t a s → ActFits a → Counted n s → Counted n (effect_of t a s).state
   unfolding poll drop_request
   counted_act t a s l k f h =
-      by_asking {X = λ o r. Counted n r.state}
+      by_asking {F = AskFits} {X = λ o r. Counted n r.state}
       (record {
         makes = λ b m. counted-make s h t b l m.such.0 m.such.1;
         polls = λ x p. counted-poll s h (polling x s) t x l p.tick;

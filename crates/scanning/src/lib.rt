@@ -1,5 +1,7 @@
 // The queue: joining it, leaving it, and the scan from its front, after the source's `BatchSemaphoreState`. The head goes by value, the
 // words of slots, tasks and grants are lent.
+#![tactic(auto)]
+
 ghost use Rattle.std.specs.Prelude.{◌≡◌, false, cond, ◌&&◌, ◌||◌, [], ◌∷◌, ◌++◌, ◌*◌, ◌≤◌, ◌<◌, length, get_or};
 ghost use Rattle.std.proofs.Math.Option.{none};
 ghost use Rattle.rules.specs.Sizes.{slot_count, max_tasks};

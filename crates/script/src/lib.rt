@@ -1,4 +1,6 @@
 // What a line of a script says: a step, or for the first line a start.
+#![tactic(auto)]
+
 ghost use Rattle.std.specs.Prelude.{◌≡◌, ◌∷◌, [], ◌≤◌, min, length};
 ghost use Rattle.rules.specs.Script.{start_of, step_of};
 ghost use Rattle.script.specs.Opening.{maker_said, Opens, start_within, tasks_on, maker_on, stock_on};
@@ -8,21 +10,21 @@ use rules::{Act, Fairness, Slot, Step, TaskId};
 use text::{Number, Reading};
 
 // What a line says: a step, or nothing.
-#[derive(Drop)]
+#[derive(Clone, Copy)]
 pub enum Parsed {
     Is(Step),
     Bad,
 }
 
 // The maker of a start, or none.
-#[derive(Drop)]
+#[derive(Clone, Copy)]
 pub enum Maker {
     Task(TaskId),
     Nobody,
 }
 
 // What a start is given besides its clocks.
-#[derive(Drop)]
+#[derive(Clone, Copy)]
 pub struct First {
     pub fairness: Fairness,
     pub stock: u32,
@@ -31,7 +33,7 @@ pub struct First {
 }
 
 // What the first line says: a start whose tasks were spawned, or one whose clocks stand in the line from a place on; or nothing.
-#[derive(Drop)]
+#[derive(Clone, Copy)]
 pub enum Opening {
     Spawned(First),
     Given(First, usize),

@@ -2,6 +2,8 @@
 // lent, always in the same order: the requests by slot, the tasks, the sizes and the clocks of the batches, the last taking's clock, the
 // clocks of the requests' makers, the tasks' clocks, and room for the grants. Each call returns a reply, how many grants stand in their
 // words, and the struct; a refusal returns its number, no grants, and the struct and every word exactly as they came in.
+#![tactic(auto)]
+
 ghost use Rattle.rules.specs.declared.Act.TheVariants.{Acquire, AcquireBypassable, AcquireReserving, Upgrade, Poll, Try, TryUpgrade, Release, Drop, Close, Sleep, Finish};
 ghost use Rattle.rules.specs.Steps.{◌does◌};
 ghost use Rattle.state.specs.View.{words};

@@ -11,7 +11,7 @@ use libc::STDIN_FILENO;
 const ENOUGH: u64 = 103079215084;
 
 // Of standard input so many bytes are kept, and so many more were counted.
-#[derive(Drop)]
+#[derive(Clone, Copy)]
 struct Got {
     kept: usize,
     more: u64,

@@ -1,5 +1,7 @@
 // Document 01's script program, and what document 02 has it do with bundles. All that it prints is what the libraries write into a
 // buffer; no contract can say what is read or written: it reads, calls and writes.
+#![tactic(auto)]
+
 use libc::{STDERR_FILENO, STDIN_FILENO};
 
 mod bundles;

@@ -8,7 +8,7 @@ use bundle::{Contents, Written};
 use libc::STDERR_FILENO;
 
 // How far the bodies reach in their buffer, and whether every file could be read.
-#[derive(Drop)]
+#[derive(Clone, Copy)]
 struct Gathered {
     at: usize,
     whole: bool,

@@ -1,4 +1,6 @@
 // The clocks of tasks that task 0 spawned in number order (document 02, No. 2), row by row in lent words.
+#![tactic(auto)]
+
 ghost use Rattle.std.specs.Prelude.{◌≡◌, ◌+◌, ◌-◌, ◌≤◌, ◌<◌, replicate};
 ghost use Rattle.rules.specs.Sizes.{max_tasks};
 ghost use Rattle.spawning.specs.Rows.{rows_after, spawned_in};

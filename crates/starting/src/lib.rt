@@ -1,4 +1,6 @@
 // The fresh state that a first line says, in words that the caller lends.
+#![tactic(auto)]
+
 ghost use Rattle.std.specs.Prelude.{◌≡◌, length};
 ghost use Rattle.rules.specs.Spawning.{spawned};
 ghost use Rattle.rules.specs.Runs.{start as begun};

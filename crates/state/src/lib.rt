@@ -1,5 +1,7 @@
 // The whole state of a semaphore: the small struct that every call takes and gives back by value, beside the words that the caller lends;
 // and the reads of it, which refuse nothing and ask nothing of what they are handed.
+#![tactic(auto)]
+
 ghost use Rattle.std.specs.Prelude.{◌≡◌, min, length};
 ghost use Rattle.rules.specs.Sizes.{max_tasks};
 ghost use Rattle.rules.specs.State.{strict as strictOf, available as availableOf, stock as stockOf, task_at, request_at};
@@ -14,14 +16,14 @@ use records::{Request, Task};
 use replies::Reply;
 use rules::{Slot, TaskId};
 
-#[derive(Drop)]
+#[derive(Clone, Copy)]
 pub struct BatchSemaphore {
     pub head: Head,
     pub batches: Batches,
 }
 
 // What a step answers: its reply, how many grants stand in their words, and the state.
-#[derive(Drop)]
+#[derive(Clone, Copy)]
 pub struct Stepped {
     pub reply: Reply,
     pub count: usize,

@@ -1,6 +1,8 @@
 // A step of a batch semaphore that counts on what 14 does not refuse: planned, checked, and then refused or taken, by who and then by when.
 // The struct goes by value; the words are lent, always in the same order: the requests by slot, the tasks, the sizes and the clocks of the
 // batches, the last taking's clock, the clocks of the requests' makers, the tasks' clocks, and room for the grants.
+#![tactic(auto)]
+
 ghost use Rattle.std.specs.Prelude.{◌≡◌, true, ◌*◌, ◌≤◌, length};
 ghost use Rattle.rules.specs.Sizes.{max_tasks, slot_count, width};
 ghost use Rattle.words.specs.View.{task_words};

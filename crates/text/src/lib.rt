@@ -1,18 +1,20 @@
 // Bytes as fields, numbers and lines; and a lent buffer that is written on.
+#![tactic(auto)]
+
 ghost use Rattle.std.specs.Prelude.{◌≡◌, ◌+◌, ◌≤◌, length, drop};
 ghost use Rattle.rules.specs.Text.{space, before, number_of, digits};
 ghost use Rattle.text.specs.Reading.{Found, letter_of, told, number_from, ReadAt, NextIs};
 ghost use Rattle.text.specs.Writing.{Appended};
 
 // What a field says: a number, or none.
-#[derive(Drop)]
+#[derive(Clone, Copy)]
 pub enum Number {
     Is(u32),
     Not,
 }
 
 // What the field at a place of a line says: the number of the line's last field, a number and the place of the next field, or none.
-#[derive(Drop)]
+#[derive(Clone, Copy)]
 pub enum Reading {
     Last(u32),
     Then(u32, usize),
@@ -20,7 +22,7 @@ pub enum Reading {
 }
 
 // The line at a place of a script: where its line feed stands, or that it has none; or that the script ends there.
-#[derive(Drop)]
+#[derive(Clone, Copy)]
 pub enum NextLine {
     Ended(usize),
     Unended,

@@ -1,6 +1,8 @@
 // When permits change hands: the clocks of tasks and requests, the batches and the clock of the last taking, changed from a step, its
 // answer and its grants in order. Where the ring stands is by value; all else is lent: `sizes` and `rows` of the batches, `last` of the
 // last taking, `makers` of the requests, `clocks` of the tasks.
+#![tactic(auto)]
+
 ghost use Rattle.std.specs.Prelude.{◌≡◌, Bool, true, false, ◌&&◌, List, ℕ, ◌+◌, ◌*◌, ◌≤◌, ◌<◌, leb, ltb, length, get_or, set};
 ghost use Rattle.rules.specs.Sizes.{batch_count, width, max_tasks, slot_count, largest};
 ghost use Rattle.rules.specs.Clock.{join, tick};

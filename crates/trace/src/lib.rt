@@ -1,4 +1,6 @@
 // A script run: from its bytes to the bytes that are printed for it. What each line comes to is `walking`'s; here it is printed.
+#![tactic(auto)]
+
 ghost use Rattle.std.specs.Prelude.{◌≡◌, ◌++◌, ◌+◌, ◌*◌, ◌≤◌, length, drop};
 ghost use Rattle.rules.specs.Sizes.{slot_count};
 ghost use Rattle.rules.specs.Text.{lines};

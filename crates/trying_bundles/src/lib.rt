@@ -1,5 +1,7 @@
 // The contract of each public function that reads, writes or names in a bundle, with that function as its body: a place to try wrong
 // answers as wrong code. Each edit in must-fail/ answers wrongly, and the contract rules it out.
+#![tactic(auto)]
+
 ghost use Rattle.std.specs.Prelude.{◌≡◌};
 ghost use Rattle.bundle.specs.Contents.{body_at};
 ghost use Rattle.bundle.specs.Reads.{Reads, ReadsCounted};

@@ -1,5 +1,7 @@
 // The contracts of a bundle run and listed, with that function as the body: a place to try wrong answers as wrong code. Each edit in
 // must-fail/ answers wrongly, and the contract rules it out.
+#![tactic(auto)]
+
 ghost use Rattle.bundle_jobs.specs.Printed.{run_text, list_text, PrintsFor};
 
 pub fn run(bundle: &[u8], more: u64, out: &mut [u8]) -> usize

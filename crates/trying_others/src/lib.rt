@@ -1,4 +1,6 @@
 // As `trying`, for the other public functions: the question about a point, the fresh states, and a script's run.
+#![tactic(auto)]
+
 ghost use Rattle.std.specs.Prelude.{◌≡◌};
 ghost use Rattle.std.proofs.Math.Option.{none, some};
 ghost use Rattle.rules.specs.Runs.{start};

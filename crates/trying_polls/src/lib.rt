@@ -1,5 +1,7 @@
 // The contract of polling and dropping a request with that call as its body, all words by value: a place to try wrong answers as wrong code.
 // Each edit in must-fail/ answers wrongly, and the contract rules it out.
+#![tactic(auto)]
+
 ghost use Rattle.rules.specs.declared.Act.TheVariants.{Poll, Drop};
 ghost use Rattle.rules.specs.Steps.{_does_};
 ghost use Rattle.arrays.specs.Arrays.{Owes};

@@ -1,5 +1,7 @@
 // The contract of releasing, closing, sleeping and finishing with that call as its body, all words by value: a place to try wrong answers as wrong code.
 // Each edit in must-fail/ answers wrongly, and the contract rules it out.
+#![tactic(auto)]
+
 ghost use Rattle.rules.specs.declared.Act.TheVariants.{Release, Close, Sleep, Finish};
 ghost use Rattle.rules.specs.Steps.{◌does◌};
 ghost use Rattle.arrays.specs.Arrays.{Owes};

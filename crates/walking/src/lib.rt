@@ -1,5 +1,7 @@
 // What the lines of a script come to, one by one and unprinted: the first line a fresh state, each other line a step and its outcome.
 // Whoever runs a script runs it here; what is printed, compared or drawn is read off what a line came to.
+#![tactic(auto)]
+
 ghost use Rattle.std.specs.Prelude.{◌≡◌, ◌<◌, length};
 ghost use Rattle.state.specs.View.{words, view_of, Fit};
 ghost use Rattle.walking.specs.Coming.{StartedBy, Begins, Comes};
@@ -14,7 +16,7 @@ use script::{First, Parsed};
 use state::{BatchSemaphore, Stepped};
 
 // What the first line came to: a fresh state, refusal 12, nothing that it says, or that there is no line.
-#[derive(Drop)]
+#[derive(Clone, Copy)]
 pub enum Beginning {
     Fresh,
     Refused,
@@ -23,7 +25,7 @@ pub enum Beginning {
 }
 
 // After the first line: the state, if it began one, and where the next line starts.
-#[derive(Drop)]
+#[derive(Clone, Copy)]
 pub struct Begun {
     pub how: Beginning,
     pub state: BatchSemaphore,
@@ -31,7 +33,7 @@ pub struct Begun {
 }
 
 // After a line: whether it said no step; what its step answered, or the state as it was; and where the next line starts.
-#[derive(Drop)]
+#[derive(Clone, Copy)]
 pub struct Walked {
     pub bad: bool,
     pub out: Stepped,

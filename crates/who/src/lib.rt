@@ -1,4 +1,6 @@
 // The engine without clocks: a step is decided, checked and carried out. 9 and 11 are no part of it.
+#![tactic(auto)]
+
 ghost use Rattle.std.specs.Prelude.{◌≡◌, ◌*◌, length};
 ghost use Rattle.std.proofs.Math.Option.{none};
 ghost use Rattle.rules.specs.Sizes.{slot_count};

@@ -1,4 +1,6 @@
 // The records of slots, tasks and grants in words that the caller lends: each is read whole, by value, and written whole.
+#![tactic(auto)]
+
 ghost use Rattle.std.specs.Prelude.{◌≡◌, [], ◌∷◌, ◌++◌, ◌*◌, ◌+◌, ◌≤◌, ◌<◌, length, get_or, set};
 ghost use Rattle.std.proofs.Math.Option.{none};
 ghost use Rattle.std.proofs.Math.Seq.{paste};
@@ -15,7 +17,7 @@ use records::{Marking, Request, Task};
 use rules::{Ask, Priority, Slot, TaskState};
 
 // A grant as it stands in its words: who took is a slot below 256, or a try.
-#[derive(Drop)]
+#[derive(Clone, Copy)]
 pub struct GrantWords {
     pub taker: u32,
     pub count: u32,
