@@ -1,4 +1,4 @@
--- `reading::in_order_lem`: the rows that are left are in order from where the bodies so far end, where all are.
+-- `reading::in_order`: the rows that are left are in order from where the bodies so far end, where all are.
 use Prim.Native.Nat.{◌≤◌, ◌+◌, ◌-◌, ◌*◌}
 use native.Mathlib.Nat.{sub-zero}
 use mathlib.Core.Path.{◌≡◌}

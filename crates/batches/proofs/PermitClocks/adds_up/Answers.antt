@@ -1,0 +1,23 @@
+-- The batches are added up, one a turn; an empty one ends it.
+use Prim.Native.Nat.{◌-◌}
+use borrow.Author.Rules.{rules}
+use Rattle.batches.proofs.Summing.{wider, sums_none, sum_fits, sums_more, finds_empty, sums_whole}
+use Rattle.batches.proofs.PermitClocks.adds_up.Goals as goal
+
+pub loop-i-init : goal.loop-i-init
+loop-i-init c = sums_none _ _
+
+pub returns-then-size-eq0 : goal.returns-then-size-eq0
+returns-then-size-eq0 c = search (finds_empty, rules)
+
+pub overflow_cast-sum : goal.overflow_cast-sum
+overflow_cast-sum c = search (wider, c.shared_slice_known-1.given, rules)
+
+pub overflow_add-sum : goal.overflow_add-sum
+overflow_add-sum c = search (sum_fits, c.shared_slice_known-1.given, rules)
+
+pub loop-i-preserved : goal.loop-i-preserved
+loop-i-preserved c = search (sums_more, c.shared_slice_known-1.given, c.if-size-eq0.false, rules)
+
+pub returns : goal.returns
+returns c = search (sums_whole, rules)
