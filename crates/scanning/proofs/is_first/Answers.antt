@@ -1,0 +1,13 @@
+-- The front, if there is one.
+use Rattle.scanning.proofs.Removing.{front_within, first_of_none, first_so}
+use borrow.Author.Rules.{rules}
+use Rattle.scanning.proofs.is_first.Goals as goal
+
+pub returns-then-length-eq0 : goal.returns-then-length-eq0
+returns-then-length-eq0 c = search (first_of_none, rules)
+
+pub at-front-requires : goal.at-front-requires
+at-front-requires c = search (front_within, rules)
+
+pub returns : goal.returns
+returns c = search (first_so, rules)
