@@ -1,0 +1,8 @@
+-- The mark of the head.
+use borrow.Author.Rules.{rules}
+use Rattle.splitting.specs.Split.{whole}
+use Rattle.state.proofs.BatchSemaphore.is_closed.Goals as goal
+
+pub returns : goal.returns
+unfolding whole
+returns c = search rules
