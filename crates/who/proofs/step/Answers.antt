@@ -1,0 +1,10 @@
+-- Refused for its actor, or left to the act.
+use Rattle.who.proofs.Stepping.{refused-actor, actor-passes}
+use borrow.Author.Rules.{rules}
+use Rattle.who.proofs.step.Goals as goal
+
+pub carry_out-requires : goal.carry_out-requires
+carry_out-requires c = search (actor-passes, rules)
+
+pub returns-in-Refused : goal.returns-in-Refused
+returns-in-Refused c = search (refused-actor, rules)
