@@ -1,0 +1,14 @@
+-- 3, then the point.
+use Rattle.splitting.specs.Asking.{point_grounds}
+use Rattle.planning.proofs.Grounds.{used-read}
+use Rattle.points.proofs.Asking.{told_here, told-on, told-point}
+use borrow.Author.Rules.{rules}
+use Rattle.points.proofs.ask_drop_again.Goals as goal
+
+pub returns-then-not-r : goal.returns-then-not-r
+unfolding point_grounds
+returns-then-not-r c = search (told_here, used-read, rules)
+
+pub returns : goal.returns
+unfolding point_grounds
+returns c = search (told-on, told-point, used-read, c.before_drop_again.ensures, rules)
