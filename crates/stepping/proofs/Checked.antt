@@ -19,8 +19,8 @@ use Rattle.state.specs.declared.BatchSemaphore.{BatchSemaphore}
 use Rattle.state.specs.View.{Words, plain_in, kept_in}
 use Rattle.stepping.specs.Contract.{Checks}
 
-pub is_some : (o : Option ℕ) (b : Bool) → b ≡ not (is_some o) → not b ≡ true → is_some o ≡ true
-is_some o b e n = not-false (is_some o) (sym e ∙ not-true b n)
+pub is_some_lem : (o : Option ℕ) (b : Bool) → b ≡ not (is_some o) → not b ≡ true → is_some o ≡ true
+is_some_lem o b e n = not-false (is_some o) (sym e ∙ not-true b n)
 
 pub is_none : (o : Option ℕ) (b : Bool) → b ≡ not (is_some o) → not b ≡ false → o ≡ none
 is_none none b e n = refl
@@ -45,7 +45,7 @@ module _ (s : BatchSemaphore) (ts cs : List ℕ) (t : TaskId) (p : Plan) where
 
   pub by_actor : (c : Check) (b : Bool) → SaysActor c → b ≡ not (is_some (given c)) → not b ≡ true → Checks c s ts cs t p
   by_actor c b k e n w et ec =
-      first-is (given c) (or_else (given p.check) (late_of w)) (is_some (given c) b e n)
+      first-is (given c) (or_else (given p.check) (late_of w)) (is_some_lem (given c) b e n)
       ∙ ap (λ (o : Option ℕ). or_else o (or_else (given p.check) (late_of w))) (actor_here c k w et)
 
   module _ (c : Check) (b : Bool) (says : SaysActor c) (told : b ≡ not (is_some (given c))) (on : not b ≡ false) where
@@ -53,7 +53,7 @@ module _ (s : BatchSemaphore) (ts cs : List ℕ) (t : TaskId) (p : Plan) where
     past_actor w et o = ap (λ (q : Option ℕ). or_else q o) (sym (is_none (given c) b told on) ∙ actor_here c says w et)
 
     pub by_plan : (d : Bool) → d ≡ not (is_some (given p.check)) → not d ≡ true → Checks p.check s ts cs t p
-    by_plan d e n w et ec = first-is (given p.check) (late_of w) (is_some (given p.check) d e n) ∙ past_actor w et (or_else (given p.check) (late_of w))
+    by_plan d e n w et ec = first-is (given p.check) (late_of w) (is_some_lem (given p.check) d e n) ∙ past_actor w et (or_else (given p.check) (late_of w))
 
     pub by_times : (d : Bool) (r : Check) → d ≡ not (is_some (given p.check)) → not d ≡ false → SaysLate r → Checks r s ts cs t p
     by_times d r e n k w et ec =

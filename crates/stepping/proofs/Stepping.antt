@@ -28,7 +28,7 @@ use Rattle.state.specs.declared.Stepped.{Stepped}
 use Rattle.state.specs.View.{Words, plain_in, kept_in, view_of, Fit}
 use Rattle.stepping.specs.Contract.{NotAccepted, Checks, Taken, StepsOn}
 use Rattle.stepping.proofs.Composed.{refusal_both}
-use Rattle.stepping.proofs.Checked.{is_some, is_none}
+use Rattle.stepping.proofs.Checked.{is_some_lem, is_none}
 
 one_number : {m n : ℕ} → ◌≡◌ {A = Option ℕ} (some m) (some n) → m ≡ n
 one_number e = cc
@@ -66,7 +66,7 @@ module _ (s : BatchSemaphore) (w : Words) (gs : List ℕ) (f : Fit s w gs) (a : 
     refused_steps r n q =
         record {
           refused = λ m e. record { answer = q.answer m (says ∙ e); count = q.count; state = q.state; words = refl; grants = refl };
-          accepted = λ e. absurd_by (given c) (says ∙ e) (is_some (given c) b told n);
+          accepted = λ e. absurd_by (given c) (says ∙ e) (is_some_lem (given c) b told n);
           fit = subst (λ (z : BatchSemaphore). Fit z w gs) (sym q.state) f;
           few = omega (arith, q.count);
         }
