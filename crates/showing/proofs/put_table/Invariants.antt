@@ -1,0 +1,11 @@
+-- `showing::put_table`: only the length of the buffer is kept.
+use Prim.Native.Nat.{◌-◌}
+use lib.ListN.{length}
+use mathlib.Core.Path.{◌≡◌}
+use Rattle.showing.proofs.put_table.Given as goal
+
+abbrev pub invariant-loop-i : goal.invariant-loop-i
+invariant-loop-i l = length l.buf ≡ length l.initial.buf
+
+abbrev pub decreases-loop-i : goal.decreases-loop-i
+decreases-loop-i l = l.count - l.i
