@@ -3,7 +3,7 @@
 #![tactic(auto)]
 
 ghost use Rattle.rules.specs.declared.Act.TheVariants.{Poll, Drop};
-ghost use Rattle.rules.specs.Steps.{_does_};
+ghost use Rattle.rules.specs.Steps.{◌does◌};
 ghost use Rattle.arrays.specs.Arrays.{Owes};
 
 use arrays::{Arrays, Came};
