@@ -14,7 +14,7 @@ use Rattle.rules.specs.Sizes.{width, largest}
 use Rattle.rules.specs.Clock.{Clock, join, tick, empty}
 use Rattle.rules.specs.Task.{Task, no_task}
 use Rattle.rules.specs.Request.{Request, no_request}
-use Rattle.rules.specs.State.{Batch, Permits, State, stock, task_at, request_at, asked_at, with_permits, alter_task, alter_request}
+use Rattle.rules.specs.State.{Batch, Permits, State, task_at, request_at, asked_at, with_permits, alter_task, alter_request}
 use Rattle.rules.specs.Fresh.{first_batch}
 use Rattle.rules.specs.Taking.{Meal, standing_of, standing, eat, Taken, taking, adding}
 use Rattle.rules.specs.Broken.{set_up_batches}

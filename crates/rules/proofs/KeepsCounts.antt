@@ -23,7 +23,7 @@ use Rattle.rules.specs.Sizes.{slot_count, batch_count, width, largest}
 use Rattle.rules.specs.Clock.{empty}
 use Rattle.rules.specs.Task.{Task, no_task, ticked, joined, slept, finished}
 use Rattle.rules.specs.Request.{Request, queued_as, held, polled_pending, polled_granted, polled_closed}
-use Rattle.rules.specs.State.{Batch, Permits, State, stock, task_at, request_at, asked_at, task_of, with_reservation, alter_task, alter_request}
+use Rattle.rules.specs.State.{Batch, Permits, State, task_at, request_at, asked_at, task_of, with_reservation, alter_task, alter_request}
 use Rattle.rules.specs.Fresh.{Start, fresh_tasks, fresh_batches, fresh, refuses12}
 use Rattle.rules.specs.Taking.{taking, take_as, take_queued, direct}
 use Rattle.rules.specs.Scan.{leave, queue_back, queue_front, grant_queued, walk, scan}

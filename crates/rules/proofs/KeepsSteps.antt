@@ -27,7 +27,7 @@ use Rattle.rules.specs.Taking.{take_as, direct}
 use Rattle.rules.specs.Scan.{without, leave}
 use Rattle.rules.specs.Waking.{wake_unfair, reblock}
 use Rattle.rules.specs.Polling.{polling, poll_work, poll_mark, polled}
-use Rattle.rules.specs.Steps.{Outcome, lowest_free, make, try_by, poll, add_released, release, dropping, drop_work, free, drop_request, empty_queue, drop_reservation, closing, wake_unfinished, quiet, effect_of, effect}
+use Rattle.rules.specs.Steps.{Outcome, lowest_free, make, try_by, poll, add_released, release, dropping, drop_work, drop_request, empty_queue, drop_reservation, closing, wake_unfinished, quiet, effect_of, effect}
 use Rattle.rules.specs.Steps.Answer.{refused}
 use Rattle.rules.specs.Refusals.{returned, gives_back, refusal}
 use Rattle.rules.specs.Fresh.{Start, first_batch, fresh_tasks, fresh_batches, fresh, refused_fresh, refuses12}
