@@ -11,7 +11,7 @@ use lib.ListN.{length, take, drop}
 use Rattle.bundle_rules.specs.declared.Refusal.TheVariants.{CutShort, TooMany, BadName, BadBodies}
 use Rattle.bundle_rules.specs.Numbers.{NumberAt}
 use Rattle.bundle_rules.specs.Bundled.{most_scripts, longest, contents_length, well_named}
-use Rattle.bundle_rules.specs.Reading.{count_of, rows_of, contents, names_of, sizes_of, in_order, ground_of}
+use Rattle.bundle_rules.specs.Reading.{count_of, rows_of, names_of, sizes_of, in_order, ground_of}
 use Rattle.bundle.specs.declared.BundleRead.{BundleRead}
 use Rattle.bundle.specs.declared.Verdict.TheVariants.{Good, Refused}
 use Rattle.bundle.specs.Contents.{stretches}

@@ -11,7 +11,6 @@ use Rattle.rules.specs.declared.Act.TheVariants.{Acquire, AcquireBypassable, Acq
 use Rattle.rules.specs.declared.Step.{Step}
 use Rattle.rules.specs.Sizes.{slot_count}
 use Rattle.rules.specs.State.{State}
-use Rattle.rules.specs.Refusals.{refusal}
 use Rattle.rules.proofs.Accepting.{Allowed, accepted}
 use Rattle.rules.proofs.Accepting as A
 use Rattle.splitting.specs.Plain.{Plain}

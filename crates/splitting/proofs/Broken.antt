@@ -23,7 +23,7 @@ use Rattle.rules.proofs.Soundness.{Clauses, clauses, unbroken}
 use Rattle.splitting.specs.Plain.{Plain}
 use Rattle.splitting.specs.Times.{Times}
 use Rattle.splitting.specs.Split.{forget, forget_slot, whole}
-use Rattle.splitting.specs.Broken.{cannot_wait, misfits, is_misfit, is_free, cannot_reserve, broken_plain, bad_batches}
+use Rattle.splitting.specs.Broken.{misfits, is_misfit, is_free, cannot_reserve, broken_plain, bad_batches}
 use Rattle.splitting.proofs.Changes.{slot-plain, request-plain, used-plain, count-plain}
 use Rattle.splitting.proofs.Whole.{forget-whole}
 

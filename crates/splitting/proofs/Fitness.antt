@@ -11,8 +11,6 @@ use Rattle.rules.specs.declared.Step.{Step}
 use Rattle.rules.specs.Sizes.{slot_count}
 use Rattle.rules.specs.State as S
 use Rattle.rules.specs.State.{State}
-use Rattle.rules.specs.Steps.{effect}
-use Rattle.rules.specs.Refusals.{refusal}
 use Rattle.rules.proofs.Soundness.{unbroken-sound}
 use Rattle.rules.proofs.KeepsSteps.{sound-effect}
 use Rattle.rules.specs.Broken.{any_of}

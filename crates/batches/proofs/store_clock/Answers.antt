@@ -1,5 +1,4 @@
 -- A row is written over, an entry a turn.
-use Prim.Native.Nat.{◌-◌}
 use borrow.Author.Rules.{rules}
 use lib.Seq.{paste-zero}
 use Rattle.tables.proofs.Rows.{writes_more, writes_whole}

@@ -1,4 +1,3 @@
-use Prim.Native.Nat.{◌-◌}
 use borrow.Author.Rules.{rules}
 use Rattle.broken.proofs.Weights.{sums_start, sums_more, sums_done}
 use Rattle.broken.proofs.four_weight.Goals as goal

@@ -1,7 +1,7 @@
 -- The lengths, the batches, then all else: one that says yes decides, and one that says no leaves the rest to decide.
 use mathlib.Core.Path.{sym, ◌∙◌}
-use Rattle.state.specs.View.{Words, words}
-use Rattle.broken.proofs.Lengths.{Lengths, lengths}
+use Rattle.state.specs.View.{words}
+use Rattle.broken.proofs.Lengths.{lengths}
 use Rattle.broken.proofs.Unbroken.{lengths_wrong, batches_wrong, who_decides}
 use Rattle.broken.proofs.is_broken.Goals as goal
 

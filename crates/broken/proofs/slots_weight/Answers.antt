@@ -1,4 +1,3 @@
-use Prim.Native.Nat.{◌-◌}
 use borrow.Author.Rules.{rules}
 use Rattle.broken.proofs.Weights.{sums_start, sums_four, fours_done}
 use Rattle.broken.proofs.slots_weight.Goals as goal

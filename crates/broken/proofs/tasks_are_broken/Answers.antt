@@ -1,4 +1,3 @@
-use Prim.Native.Nat.{◌-◌}
 use borrow.Author.Rules.{rules}
 use Rattle.broken.proofs.Tasks.{stray_start, stray_more, stray_state, stray_else}
 use Rattle.broken.proofs.tasks_are_broken.Goals as goal

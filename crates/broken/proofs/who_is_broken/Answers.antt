@@ -1,9 +1,7 @@
 -- The sizes, then the parts one after the other: one that says yes decides, and one that says no leaves the rest to decide.
 use Rattle.broken.proofs.Who.{past_tasks, past_queue, tasks_wrong, slots_wrong, reservation_wrong, closed_decides}
 use Rattle.rules.proofs.Places.{unmap}
-use mathlib.Core.Path.{◌≡◌}
 use borrow.Author.Rules.{rules}
-use lib.ListN.{length}
 use Rattle.broken.proofs.who_is_broken.Goals as goal
 
 pub returns-then-h-gt16 : goal.returns-then-h-gt16

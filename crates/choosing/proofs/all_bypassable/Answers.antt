@@ -1,5 +1,4 @@
 -- Those passed are Bypassable: what holds from here on holds of all.
-use Prim.Native.Nat.{◌-◌}
 use Rattle.rules.proofs.Places.{unmap}
 use Rattle.choosing.proofs.Looking.{one_blocks, one_passes, all_pass}
 use borrow.Author.Rules.{rules}

@@ -1,5 +1,4 @@
 -- A slot a turn.
-use Prim.Native.Nat.{◌-◌}
 use borrow.Author.Rules.{rules}
 use Rattle.rules.proofs.Places.{unmap}
 use Rattle.closing.proofs.Emptying.{emptying, emptying_on, emptied}

@@ -1,5 +1,4 @@
 -- The words are cleared, one a turn.
-use Prim.Native.Nat.{◌-◌}
 use borrow.Author.Rules.{rules}
 use Rattle.fresh.proofs.Clearing.{clears_none, clears_more, clears_all}
 use Rattle.fresh.proofs.clear.Goals as goal

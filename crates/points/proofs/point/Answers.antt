@@ -1,5 +1,5 @@
 -- 14 first, and else a question about what is fit.
-use Rattle.state.specs.View.{Words, words}
+use Rattle.state.specs.View.{words}
 use Rattle.points.proofs.Judged.{told-broken, told-unbroken}
 use Rattle.points.proofs.point.Goals as goal
 

@@ -1,5 +1,4 @@
 -- A request a turn.
-use Prim.Native.Nat.{◌-◌}
 use borrow.Author.Rules.{rules}
 use Rattle.rules.proofs.Places.{unmap}
 use Rattle.rousing.proofs.Turns.{along_start, along_on, along_done}

@@ -1,6 +1,6 @@
 -- Broken, or a step of a fit state.
 use mathlib.Core.Path.{refl}
-use Rattle.state.specs.View.{Words, words}
+use Rattle.state.specs.View.{words}
 use Rattle.semaphore.proofs.Judged.{steps_broken, steps_fit}
 use Rattle.semaphore.proofs.step.Goals as goal
 

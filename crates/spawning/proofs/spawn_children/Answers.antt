@@ -1,5 +1,4 @@
 -- `spawning::spawn_children`: a child at a time.
-use Prim.Native.Nat.{◌-◌}
 use borrow.Author.Rules.{rules}
 use Rattle.spawning.proofs.Spawns.{nobody_yet, all_spawned}
 use Rattle.spawning.proofs.spawn_children.Goals as goal

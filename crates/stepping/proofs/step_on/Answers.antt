@@ -1,11 +1,7 @@
 -- Planned, checked, and then refused or taken.
 use mathlib.Core.Path.{ap}
 use mathlib.Core.Bool.{not}
-use mathlib.Core.Path.{◌≡◌}
-use Rattle.rules.specs.Refusals.{refusal}
-use Rattle.replies.specs.Answers.{given}
-use Rattle.planning.specs.Plans.{Planned}
-use Rattle.state.specs.View.{Words, words, plain_in, view_of}
+use Rattle.state.specs.View.{words}
 use Rattle.stepping.proofs.Stepping.{checked_whole, refused_steps, no_refusal, taken_steps}
 use Rattle.stepping.proofs.step_on.Goals as goal
 

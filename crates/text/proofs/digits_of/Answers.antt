@@ -1,5 +1,4 @@
 -- `text::digits_of`: the digits from the place reached on, behind those read, say what all of them say.
-use Prim.Native.Nat.{◌-◌}
 use mathlib.Core.Path.{refl}
 use borrow.Author.Rules.{rules}
 use Rattle.text.proofs.Numbers.{stop_low, stop_high, stop_large, one_more_lem, all_read}

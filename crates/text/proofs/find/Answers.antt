@@ -1,5 +1,4 @@
 -- `text::find`: from the place reached on, the first part ends where it did from the start.
-use Prim.Native.Nat.{◌-◌}
 use mathlib.Core.Path.{refl}
 use borrow.Author.Rules.{rules}
 use Rattle.text.proofs.Scanning.{look_on, found_here, found_none}

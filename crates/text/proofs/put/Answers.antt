@@ -1,5 +1,4 @@
 -- `text::put`: the buffer has the first i bytes of w.
-use Prim.Native.Nat.{◌-◌}
 use native.Mathlib.Nat.{add-zero}
 use mathlib.Core.Path.{refl}
 use borrow.Author.Rules.{rules}

@@ -1,6 +1,5 @@
 -- Grants are applied, one a turn.
 use native.Mathlib.Omega.{arith}
-use Prim.Native.Nat.{◌-◌}
 use borrow.Author.Rules.{rules}
 use Rattle.times.proofs.Turning.{turn-first, turn-next, turn_last}
 use Rattle.times.proofs.apply_grants.Goals as goal

@@ -1,5 +1,4 @@
 -- Nothing, or a tick and a batch.
-use Prim.Native.Nat.{◌<◌}
 use native.Mathlib.Omega.{arith}
 use Rattle.times.proofs.Actor.{given_none, given_some}
 use borrow.Author.Rules.{rules}

@@ -1,5 +1,4 @@
 -- A row is read, a word a turn.
-use Prim.Native.Nat.{◌-◌}
 use mathlib.Core.Path.{refl}
 use borrow.Author.Rules.{rules}
 use Rattle.tables.proofs.Rows.{reads_more, reads_whole}

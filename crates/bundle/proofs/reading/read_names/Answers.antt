@@ -1,5 +1,4 @@
 -- `reading::read_names`: the names that are there, with those of the rows that are left, are those of all rows.
-use Prim.Native.Nat.{◌-◌}
 use native.Mathlib.Nat.{sub-zero}
 use mathlib.Core.Path.{refl}
 use Rattle.bundle.proofs.Rows.{name_here, names_all}

@@ -1,5 +1,4 @@
 -- `reading::sum`: what is added so far with the lengths that are left is the whole sum.
-use Prim.Native.Nat.{◌-◌}
 use native.Mathlib.Nat.{sub-zero, zero-add}
 use Rattle.bundle.proofs.Bodies.{sum-next, sum_all}
 use native.Mathlib.Omega.{arith}

@@ -1,5 +1,4 @@
 -- A join, an entry a turn: after i turns the first i entries are those of the join, the others as in the first clock.
-use Prim.Native.Nat.{◌-◌}
 use mathlib.Core.Path.{refl}
 use borrow.Author.Rules.{rules}
 use Rattle.clock.proofs.Joining.{joins_more, joins_whole}
