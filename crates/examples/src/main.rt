@@ -2,7 +2,7 @@
 // in the file behind it: what a bundle's list says, if that file's name ends so.
 #![tactic(auto)]
 
-ghost use Rattle.std.specs.Prelude.{◌≤◌, IfOk};
+ghost use Rattle.std.specs.Prelude.{◌≤◌};
 ghost use Rattle.filling.specs.Counts.{IsPrefixLen};
 
 use std::fs::File;
@@ -38,25 +38,25 @@ fn printed_room() -> [u8; bundle_jobs::OUTPUT] {
 }
 
 // The file of a name, if it can be opened.
-fn open(rt: &HostRuntime, name: &[u8]) -> Result<Option<File>> {
+fn open(rt: &HostRuntime, name: &[u8]) -> Option<File> {
     if let Ok(path) = str::from_utf8(name) {
         if let Ok(file) = File::open(rt, path) {
-            return Ok(Some(file));
+            return Some(file);
         }
     }
-    print!(rt; "missing: ")?;
-    Ok(None)
+    let _ = print!(rt; "missing: ");
+    None
 }
 
 // The file that an argument names.
-fn read(rt: &HostRuntime, i: usize, buf: &mut [u8]) -> Result<usize>
-    ensures { IfOk result (λ n. IsPrefixLen n buf.new) }
+fn read(rt: &HostRuntime, i: usize, buf: &mut [u8]) -> usize
+    ensures { IsPrefixLen result buf.new }
 {
     let mut name = [0u8; 4096];
     let k = filling::arg(rt, i, &mut name);
-    match open(rt, &name[..k])? {
-        Some(mut file) => Ok(filling::read_full(&mut file, buf)),
-        None => Ok(0),
+    match open(rt, &name[..k]) {
+        Some(mut file) => filling::read_full(&mut file, buf),
+        None => 0,
     }
 }
 
@@ -89,11 +89,11 @@ fn ends(rt: &HostRuntime, i: usize, word: &[u8]) -> bool {
 // The script that argument i names, and the text that the next one names.
 fn compare_script(rt: &HostRuntime, i: usize, next: usize) -> Result<()> {
     let mut script = script_room();
-    let n = read(rt, i, &mut script)?;
+    let n = read(rt, i, &mut script);
     let mut text = text_room();
     let k = trace::run(&script[..n], &mut text);
     let mut told = text_room();
-    let m = read(rt, next, &mut told)?;
+    let m = read(rt, next, &mut told);
     say(rt, i)?;
     judge(rt, &text[..k], &told[..m])
 }
@@ -110,11 +110,11 @@ fn print(bundle: &[u8], list: bool, out: &mut [u8]) -> usize
 // The bundle that argument i names, run or listed, and the text that the next one names.
 fn compare_bundle(rt: &HostRuntime, i: usize, next: usize, list: bool) -> Result<()> {
     let mut bundle = bundle_room();
-    let n = read(rt, i, &mut bundle)?;
+    let n = read(rt, i, &mut bundle);
     let mut text = printed_room();
     let k = print(&bundle[..n], list, &mut text);
     let mut told = text_room();
-    let m = read(rt, next, &mut told)?;
+    let m = read(rt, next, &mut told);
     say(rt, next)?;
     judge(rt, &text[..k], &told[..m])
 }
