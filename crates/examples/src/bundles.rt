@@ -2,7 +2,7 @@
 use super::BUNDLE;
 use bundle::{Verdict, Written};
 use bundle_rules::Refusal;
-use libc::STDOUT_FILENO;
+use std::io::Result;
 
 // A bundle of two scripts: `k1`, of 14 bytes, and `empty`, of none.
 fn two() -> [u8; 66] {
@@ -15,9 +15,8 @@ fn two() -> [u8; 66] {
     s
 }
 
-fn say_refusal(why: Refusal) {
-    io::write_all(STDOUT_FILENO, b"r");
-    io::print_decimal(STDOUT_FILENO, bundle_rules::number(why) as u64);
+fn say_refusal(rt: &impl Print, why: Refusal) -> Result<()> {
+    print!(rt; "r{}", bundle_rules::number(why))
 }
 
 // That bundle read, and written again into a buffer.
@@ -27,41 +26,38 @@ fn write_again(out: &mut [u8]) -> Written {
     bundle::write(read.contents, &whole[52..], out)
 }
 
-fn say_written(w: Written) {
+fn say_written(rt: &impl Print, w: Written) -> Result<()> {
     match w {
-        Written::Wrote(n) => {
-            io::print_decimal(STDOUT_FILENO, n as u64);
-        }
-        Written::Not(why) => say_refusal(why),
+        Written::Wrote(n) => print!(rt; "{n}"),
+        Written::Not(why) => say_refusal(rt, why),
     }
 }
 
-fn say_room() {
-    io::write_all(STDOUT_FILENO, b"66 bytes written again into 66: ");
+fn say_room(rt: &impl Print) -> Result<()> {
+    print!(rt; "66 bytes written again into 66: ")?;
     let mut out = [0u8; 66];
-    say_written(write_again(&mut out));
+    say_written(rt, write_again(&mut out))?;
     if check::same(&out, &two()) {
-        io::write_all(STDOUT_FILENO, b", the same\n");
+        println!(rt; ", the same")
     } else {
-        io::write_all(STDOUT_FILENO, b", NOT THE SAME\n");
+        println!(rt; ", NOT THE SAME")
     }
 }
 
-fn say_no_room() {
-    io::write_all(STDOUT_FILENO, b"66 bytes written again into 65: ");
+fn say_no_room(rt: &impl Print) -> Result<()> {
+    print!(rt; "66 bytes written again into 65: ")?;
     let mut out = [0u8; 65];
-    say_written(write_again(&mut out));
-    io::write_all(STDOUT_FILENO, b"\n");
+    say_written(rt, write_again(&mut out))?;
+    println!(rt)
 }
 
-fn say_body() {
+fn say_body(rt: &impl Print) -> Result<()> {
     let whole = two();
     let read = bundle::read(&whole);
     let body = bundle::body(&whole, read.contents, 0);
-    io::write_all(STDOUT_FILENO, b"the first body, ");
-    io::print_decimal(STDOUT_FILENO, body.len() as u64);
-    io::write_all(STDOUT_FILENO, b" bytes:\n");
-    io::write_all(STDOUT_FILENO, body);
+    let n = body.len();
+    println!(rt; "the first body, {n} bytes:")?;
+    rt.write_all(body)
 }
 
 // The first bytes of a bundle whose count is 2,916: its table has 69,988 bytes.
@@ -72,24 +68,22 @@ fn kept() -> [u8; BUNDLE] {
     s
 }
 
-fn say_counted(more: u64) {
+fn say_counted(rt: &impl Print, more: u64) -> Result<()> {
     let s = kept();
     let verdict = bundle::read_counted(&s, more).verdict;
     match verdict {
-        Verdict::Good => {
-            io::write_all(STDOUT_FILENO, b"good");
-        }
-        Verdict::Refused(why) => say_refusal(why),
+        Verdict::Good => print!(rt; "good")?,
+        Verdict::Refused(why) => say_refusal(rt, why)?,
     }
-    io::write_all(STDOUT_FILENO, b"\n");
+    println!(rt)
 }
 
-pub fn tell() {
-    say_room();
-    say_no_room();
-    say_body();
-    io::write_all(STDOUT_FILENO, b"a count of 2916 in 70000 bytes: ");
-    say_counted(4463);
-    io::write_all(STDOUT_FILENO, b"a count of 2916 in 65537 bytes: ");
-    say_counted(0);
+pub fn tell(rt: &impl Print) -> Result<()> {
+    say_room(rt)?;
+    say_no_room(rt)?;
+    say_body(rt)?;
+    print!(rt; "a count of 2916 in 70000 bytes: ")?;
+    say_counted(rt, 4463)?;
+    print!(rt; "a count of 2916 in 65537 bytes: ")?;
+    say_counted(rt, 0)
 }

@@ -3,9 +3,11 @@
 #![tactic(auto)]
 
 ghost use Rattle.std.specs.Prelude.{◌≤◌};
-ghost use Rattle.io.specs.Counts.{IsPrefixLen};
+ghost use Rattle.filling.specs.Counts.{IsPrefixLen};
 
-use libc::STDOUT_FILENO;
+use std::fs::File;
+use std::io::Result;
+use std::str;
 
 mod bundles;
 mod trials;
@@ -35,45 +37,48 @@ fn printed_room() -> [u8; bundle_jobs::OUTPUT] {
     [0u8; bundle_jobs::OUTPUT]
 }
 
-fn open(name: &[u8]) -> i32 {
-    let fd = os::open_read(name);
-    if fd < 0 {
-        io::write_all(STDOUT_FILENO, b"missing: ");
+// The file of a name, if it can be opened.
+fn open(rt: &HostRuntime, name: &[u8]) -> Option<File> {
+    if let Ok(path) = str::from_utf8(name) {
+        if let Ok(file) = File::open(rt, path) {
+            return Some(file);
+        }
     }
-    fd
+    let _ = print!(rt; "missing: ");
+    None
 }
 
 // The file that an argument names.
-fn read(i: usize, buf: &mut [u8]) -> usize
+fn read(rt: &HostRuntime, i: usize, buf: &mut [u8]) -> usize
     ensures { IsPrefixLen result buf.new }
 {
-    let mut name = io::buffer();
-    let k = os::arg(i, &mut name);
-    let fd = open(&name[..k]);
-    let n = io::read_full(fd, buf);
-    libc::close(fd);
-    n
+    let mut name = [0u8; 4096];
+    let k = filling::arg(rt, i, &mut name);
+    match open(rt, &name[..k]) {
+        Some(mut file) => filling::read_full(&mut file, buf),
+        None => 0,
+    }
 }
 
 // Writes an argument.
-fn say(i: usize) {
-    let mut name = io::buffer();
-    let k = os::arg(i, &mut name);
-    io::write_all(STDOUT_FILENO, &name[..k]);
+fn say(rt: &HostRuntime, i: usize) -> Result<()> {
+    let mut name = [0u8; 4096];
+    let k = filling::arg(rt, i, &mut name);
+    rt.write_all(&name[..k])
 }
 
-fn judge(text: &[u8], told: &[u8]) {
+fn judge(rt: &HostRuntime, text: &[u8], told: &[u8]) -> Result<()> {
     if check::same(text, told) {
-        io::write_all(STDOUT_FILENO, b" prints what is told\n");
+        println!(rt; " prints what is told")
     } else {
-        io::write_all(STDOUT_FILENO, b" PRINTS SOMETHING ELSE\n");
+        println!(rt; " PRINTS SOMETHING ELSE")
     }
 }
 
 // Whether an argument ends with a word.
-fn ends(i: usize, word: &[u8]) -> bool {
-    let mut name = io::buffer();
-    let k = os::arg(i, &mut name);
+fn ends(rt: &HostRuntime, i: usize, word: &[u8]) -> bool {
+    let mut name = [0u8; 4096];
+    let k = filling::arg(rt, i, &mut name);
     if k < word.len() {
         return false;
     }
@@ -82,15 +87,15 @@ fn ends(i: usize, word: &[u8]) -> bool {
 }
 
 // The script that argument i names, and the text that the next one names.
-fn compare_script(i: usize, next: usize) {
+fn compare_script(rt: &HostRuntime, i: usize, next: usize) -> Result<()> {
     let mut script = script_room();
-    let n = read(i, &mut script);
+    let n = read(rt, i, &mut script);
     let mut text = text_room();
     let k = trace::run(&script[..n], &mut text);
     let mut told = text_room();
-    let m = read(next, &mut told);
-    say(i);
-    judge(&text[..k], &told[..m]);
+    let m = read(rt, next, &mut told);
+    say(rt, i)?;
+    judge(rt, &text[..k], &told[..m])
 }
 
 fn print(bundle: &[u8], list: bool, out: &mut [u8]) -> usize
@@ -103,40 +108,40 @@ fn print(bundle: &[u8], list: bool, out: &mut [u8]) -> usize
 }
 
 // The bundle that argument i names, run or listed, and the text that the next one names.
-fn compare_bundle(i: usize, next: usize, list: bool) {
+fn compare_bundle(rt: &HostRuntime, i: usize, next: usize, list: bool) -> Result<()> {
     let mut bundle = bundle_room();
-    let n = read(i, &mut bundle);
+    let n = read(rt, i, &mut bundle);
     let mut text = printed_room();
     let k = print(&bundle[..n], list, &mut text);
     let mut told = text_room();
-    let m = read(next, &mut told);
-    say(next);
-    judge(&text[..k], &told[..m]);
+    let m = read(rt, next, &mut told);
+    say(rt, next)?;
+    judge(rt, &text[..k], &told[..m])
 }
 
-fn compare(i: usize, next: usize) {
-    if ends(i, b".bundle") {
-        compare_bundle(i, next, ends(next, b".list"));
-        return;
+fn compare(rt: &HostRuntime, i: usize, next: usize) -> Result<()> {
+    if ends(rt, i, b".bundle") {
+        let list = ends(rt, next, b".list");
+        return compare_bundle(rt, i, next, list);
     }
-    compare_script(i, next);
+    compare_script(rt, i, next)
 }
 
 // How many arguments are looked at, the program's own name counted.
-fn count() -> usize
+fn count(rt: &HostRuntime) -> usize
     ensures { result ≤ 1000 }
 {
-    let n = os::arg_count();
-    if n < 1000 { n } else { 1000 }
+    filling::arg_count(rt, 1000)
 }
 
-fn main() {
-    trials::tell();
-    bundles::tell();
-    let n = count();
+fn main(rt: HostRuntime) -> Result<()> {
+    trials::tell(&rt)?;
+    bundles::tell(&rt)?;
+    let n = count(&rt);
     let mut i: usize = 1;
     while i + 1 < n {
-        compare(i, i + 1);
+        compare(&rt, i, i + 1)?;
         i += 2;
     }
+    Ok(())
 }

@@ -2,30 +2,31 @@
 // bytes.
 ghost use Rattle.std.specs.Prelude.{◌≡◌, length};
 
-use libc::STDOUT_FILENO;
 use records::Task;
+use std::io::Result;
 
-fn say_task(t: Task) {
+fn say_task(rt: &impl Print, t: Task) -> Result<()> {
     if t.runnable() {
-        io::write_all(STDOUT_FILENO, b" Runnable");
+        print!(rt; " Runnable")?;
     } else {
-        io::write_all(STDOUT_FILENO, b" not-Runnable");
+        print!(rt; " not-Runnable")?;
     }
     if t.woken {
-        io::write_all(STDOUT_FILENO, b"-woken");
+        print!(rt; "-woken")?;
     }
+    Ok(())
 }
 
 // A record blocked and unblocked, and one that sleeps and is woken, where it stands.
-fn say_altered() {
-    io::write_all(STDOUT_FILENO, b"a record that is lent:");
+fn say_altered(rt: &impl Print) -> Result<()> {
+    print!(rt; "a record that is lent:")?;
     let halted = altering::halted(Task::none());
-    say_task(halted);
-    say_task(altering::freed(halted));
+    say_task(rt, halted)?;
+    say_task(rt, altering::freed(halted))?;
     let asleep = Task::none().sleep_unless_woken();
-    say_task(asleep);
-    say_task(altering::woke(asleep));
-    io::write_all(STDOUT_FILENO, b"\n");
+    say_task(rt, asleep)?;
+    say_task(rt, altering::woke(asleep))?;
+    println!(rt)
 }
 
 // Zeros, to put a first line into.
@@ -46,24 +47,24 @@ fn put_entries(line: &mut [u8])
 }
 
 // What such a line prints with all its entries, and with one less.
-fn say_entries() {
+fn say_entries(rt: &impl Print) -> Result<()> {
     let mut line = entries();
     put_entries(&mut line);
     line[65531] = b'\n';
     let mut out = output();
     let k = trace::run(&line, &mut out);
-    io::write_all(STDOUT_FILENO, b"181 tasks, 32761 entries: ");
-    io::write_all(STDOUT_FILENO, &out[..k]);
+    print!(rt; "181 tasks, 32761 entries: ")?;
+    rt.write_all(&out[..k])
 }
 
-fn say_one_less() {
+fn say_one_less(rt: &impl Print) -> Result<()> {
     let mut line = entries();
     put_entries(&mut line);
     line[65529] = b'\n';
     let mut out = output();
     let k = trace::run(&line, &mut out);
-    io::write_all(STDOUT_FILENO, b"181 tasks, 32760 entries: ");
-    io::write_all(STDOUT_FILENO, &out[..k]);
+    print!(rt; "181 tasks, 32760 entries: ")?;
+    rt.write_all(&out[..k])
 }
 
 // Line feeds alone: the longest script, and one byte more.
@@ -80,29 +81,27 @@ fn output() -> [u8; trace::OUTPUT] {
 }
 
 // How many bytes the longest script prints, with a first line in front.
-fn say_longest() {
+fn say_longest(rt: &impl Print) -> Result<()> {
     let mut script = longest();
     text::put(&mut script, 0, b"S 1 0 1\n");
     let mut out = output();
     let k = trace::run(&script, &mut out);
-    io::write_all(STDOUT_FILENO, b"65536 bytes print: ");
-    io::print_decimal(STDOUT_FILENO, k as u64);
-    io::write_all(STDOUT_FILENO, b"\n");
+    println!(rt; "65536 bytes print: {k}")
 }
 
-fn say_too_long() {
+fn say_too_long(rt: &impl Print) -> Result<()> {
     let mut script = too_long();
     text::put(&mut script, 0, b"S 1 0 1\n");
     let mut out = output();
     let k = trace::run(&script, &mut out);
-    io::write_all(STDOUT_FILENO, b"65537 bytes print: ");
-    io::write_all(STDOUT_FILENO, &out[..k]);
+    print!(rt; "65537 bytes print: ")?;
+    rt.write_all(&out[..k])
 }
 
-pub fn tell() {
-    say_altered();
-    say_entries();
-    say_one_less();
-    say_longest();
-    say_too_long();
+pub fn tell(rt: &impl Print) -> Result<()> {
+    say_altered(rt)?;
+    say_entries(rt)?;
+    say_one_less(rt)?;
+    say_longest(rt)?;
+    say_too_long(rt)
 }

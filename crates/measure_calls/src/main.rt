@@ -1,6 +1,8 @@
 // The steps on standard input, each by a public call: the second column of `bench/run`.
 #![tactic(auto)]
 
-fn main() {
-    measuring::run_all(true);
+use std::io;
+
+fn main(rt: HostRuntime) -> io::Result<()> {
+    measuring::run_all(&rt, true)
 }

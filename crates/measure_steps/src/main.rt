@@ -1,6 +1,8 @@
 // The steps on standard input, 14 tested once: the first column of `bench/run`.
 #![tactic(auto)]
 
-fn main() {
-    measuring::run_all(false);
+use std::io;
+
+fn main(rt: HostRuntime) -> io::Result<()> {
+    measuring::run_all(&rt, false)
 }

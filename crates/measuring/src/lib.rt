@@ -10,6 +10,8 @@ use replies::Reply;
 use rules::{Act, Fairness, Slot, Step, TaskId};
 use script::{First, Maker};
 use state::BatchSemaphore;
+use std::io;
+use std::io::Input;
 
 // The bytes of a record.
 const RECORD: usize = 8;
@@ -228,12 +230,12 @@ fn input() -> [u8; INPUT] {
 }
 
 // Runs them all, and prints the sum; without a start, 0.
-pub fn run_all(by_calls: bool) {
+pub fn run_all(rt: &(impl Input + Print), by_calls: bool) -> io::Result<()> {
     let mut src = input();
-    let n = io::read_full(libc::STDIN_FILENO, &mut src);
+    let n = filling::read_full(&mut rt.reader(), &mut src);
     let mut sum: u64 = 0;
     if RECORD <= n {
         sum = run(&src[..n], by_calls);
     }
-    io::print_decimal(libc::STDOUT_FILENO, sum);
+    print!(rt; "{sum}")
 }

@@ -1,5 +1,5 @@
 // Bytes that are read and written whatever the places are.
-use libc::STDOUT_FILENO;
+use std::io::Result;
 
 pub fn byte_at(s: &[u8], i: usize) -> u8 {
     if i < s.len() { s[i] } else { 0 }
@@ -15,10 +15,10 @@ pub fn part(s: &[u8], from: usize, to: usize) -> &[u8] {
     &s[..0]
 }
 
-pub fn write(s: &[u8]) {
-    io::write_all(STDOUT_FILENO, s);
+pub fn write(rt: &impl Print, s: &[u8]) -> Result<()> {
+    rt.write_all(s)
 }
 
-pub fn write_number(n: u64) {
-    io::print_decimal(STDOUT_FILENO, n);
+pub fn write_number(rt: &impl Print, n: u64) -> Result<()> {
+    print!(rt; "{n}")
 }

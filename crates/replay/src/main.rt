@@ -7,20 +7,22 @@ mod sample;
 mod states;
 mod walk;
 
+use std::io::Result;
+
 // The first letter of the first argument; 0 where there is none.
-fn word() -> u8 {
-    let mut name = io::buffer();
-    let k = os::arg(1, &mut name);
+fn word(rt: &HostRuntime) -> u8 {
+    let mut name = [0u8; 4096];
+    let k = filling::arg(rt, 1, &mut name);
     if k == 0 {
         return 0;
     }
     name[0]
 }
 
-fn main() {
-    match word() {
-        b'o' => states::run_one(),
-        b'm' => states::run_many(),
-        _ => sample::run(),
+fn main(rt: HostRuntime) -> Result<()> {
+    match word(&rt) {
+        b'o' => states::run_one(&rt),
+        b'm' => states::run_many(&rt),
+        _ => sample::run(&rt),
     }
 }

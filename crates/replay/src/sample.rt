@@ -1,7 +1,11 @@
 // Runs the recorded scripts, NNN.script, and holds the whole state after each line to what the Rust did, NNN.state.
 use crate::bytes::{byte_at, part, write, write_number};
 use crate::walk;
+use std::fs::File;
+use std::io::Result;
 use std::num::wrapping_add_u64;
+use std::rt::Files;
+use std::str;
 
 // What was compared; and of the last script how many lines, and where the text for the last of them begins.
 #[derive(Clone, Copy)]
@@ -67,25 +71,32 @@ fn block_end(text: &[u8], from: usize) -> usize {
 }
 
 // The line that differs, whole.
-fn tell(number: u32, got: &[u8], want: &[u8], line: u64, from: usize) {
-    write(b"script ");
-    write_number(number as u64);
-    write(b", line ");
-    write_number(line);
-    write(b"\nthe Rust:\n");
-    write(part(want, from, block_end(want, from)));
-    write(b"this engine:\n");
-    write(part(got, from, block_end(got, from)));
+fn tell(
+    rt: &impl Print,
+    number: u32,
+    got: &[u8],
+    want: &[u8],
+    line: u64,
+    from: usize,
+) -> Result<()> {
+    write(rt, b"script ")?;
+    write_number(rt, number as u64)?;
+    write(rt, b", line ")?;
+    write_number(rt, line)?;
+    write(rt, b"\nthe Rust:\n")?;
+    write(rt, part(want, from, block_end(want, from)))?;
+    write(rt, b"this engine:\n")?;
+    write(rt, part(got, from, block_end(got, from)))
 }
 
 // The first difference of all is told.
-fn differing(number: u32, got: &[u8], want: &[u8], t: Tally) -> Tally {
+fn differing(rt: &impl Print, number: u32, got: &[u8], want: &[u8], t: Tally) -> Result<Tally> {
     if t.differences == 0 {
-        tell(number, got, want, t.line, t.from);
+        tell(rt, number, got, want, t.line, t.from)?;
     }
     let mut out = t;
     out.differences = add(t.differences, true);
-    out
+    Ok(out)
 }
 
 fn larger(m: usize, n: usize) -> usize {
@@ -93,7 +104,7 @@ fn larger(m: usize, n: usize) -> usize {
 }
 
 // A script's text held to the recorded one, as long as they are the same.
-fn compare(number: u32, got: &[u8], want: &[u8], before: Tally) -> Tally {
+fn compare(rt: &impl Print, number: u32, got: &[u8], want: &[u8], before: Tally) -> Result<Tally> {
     let mut t = before;
     t.scripts = add(before.scripts, true);
     t.line = 0;
@@ -102,11 +113,11 @@ fn compare(number: u32, got: &[u8], want: &[u8], before: Tally) -> Tally {
     while i < end {
         t = counted(t, got, want, i);
         if byte_at(got, i) != byte_at(want, i) {
-            return differing(number, got, want, t);
+            return differing(rt, number, got, want, t);
         }
         i += 1;
     }
-    t
+    Ok(t)
 }
 
 fn digit(n: u32) -> u8 {
@@ -114,35 +125,33 @@ fn digit(n: u32) -> u8 {
 }
 
 // How many bytes a file has.
-fn read(number: u32, ending: &[u8], buf: &mut [u8]) -> usize {
+fn read(rt: &impl Files, number: u32, ending: &[u8], buf: &mut [u8]) -> usize {
     let mut path = [0u8; 16];
     let digits = [digit(number / 100), digit(number / 10), digit(number)];
     let p = showing::put(&mut path, 0, &digits);
     let n = showing::put(&mut path, p, ending);
-    let fd = os::open_read(part(&path, 0, n));
-    if fd < 0 {
-        return MISSING;
+    let name = str::from_utf8(part(&path, 0, n)).unwrap_or("");
+    match File::open(rt, name) {
+        Err(_) => MISSING,
+        Ok(mut file) => filling::read_full(&mut file, buf),
     }
-    let m = io::read_full(fd, buf);
-    libc::close(fd);
-    m
 }
 
 // The script of a number, if there is one.
-fn replay(number: u32, t: Tally) -> Tally {
-    let mut script = io::large_buffer();
+fn replay(rt: &(impl Files + Print), number: u32, t: Tally) -> Result<Tally> {
+    let mut script = [0u8; 65536];
     let mut want = [0u8; walk::ROOM];
     let mut got = [0u8; walk::ROOM];
-    let k = read(number, b".script", &mut script);
+    let k = read(rt, number, b".script", &mut script);
     if MISSING <= k {
-        return t;
+        return Ok(t);
     }
-    let n = walk::run(part(&script, 0, k), &mut got, walk::ROOM);
-    let m = read(number, b".state", &mut want);
-    compare(number, part(&got, 0, n), part(&want, 0, m), t)
+    let n = walk::run(rt, part(&script, 0, k), &mut got, walk::ROOM)?;
+    let m = read(rt, number, b".state", &mut want);
+    compare(rt, number, part(&got, 0, n), part(&want, 0, m), t)
 }
 
-fn replay_all() -> Tally {
+fn replay_all(rt: &(impl Files + Print)) -> Result<Tally> {
     let mut t = Tally {
         scripts: 0,
         steps: 0,
@@ -153,22 +162,22 @@ fn replay_all() -> Tally {
     };
     let mut number: u32 = 0;
     while number < 1000 {
-        t = replay(number, t);
+        t = replay(rt, number, t)?;
         number += 1;
     }
-    t
+    Ok(t)
 }
 
-fn say(n: u64, what: &[u8]) {
-    write_number(n);
-    write(what);
+fn say(rt: &impl Print, n: u64, what: &[u8]) -> Result<()> {
+    write_number(rt, n)?;
+    write(rt, what)
 }
 
 // Replays the sample, and says what was compared.
-pub fn run() {
-    let t = replay_all();
-    say(t.scripts, b" scripts, ");
-    say(t.steps, b" steps, ");
-    say(t.refused, b" of them refused, ");
-    say(t.differences, b" differences\n");
+pub fn run(rt: &(impl Files + Print)) -> Result<()> {
+    let t = replay_all(rt)?;
+    say(rt, t.scripts, b" scripts, ")?;
+    say(rt, t.steps, b" steps, ")?;
+    say(rt, t.refused, b" of them refused, ")?;
+    say(rt, t.differences, b" differences\n")
 }

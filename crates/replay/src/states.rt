@@ -2,18 +2,18 @@
 // the two bytes of its length, the high one first, and behind what is printed for it a line `end`.
 use crate::bytes::{part, write};
 use crate::walk;
+use std::io::{Input, Result};
 
 // Scripts above this are not read.
 const MOST: usize = 65536;
 
-pub fn run_one() {
+pub fn run_one(rt: &(impl Input + Print)) -> Result<()> {
     let mut script = [0u8; MOST + 1];
-    let n = io::read_full(0, &mut script);
+    let n = filling::read_full(&mut rt.reader(), &mut script);
     if MOST < n {
-        write(b"long\n");
-        return;
+        return write(rt, b"long\n");
     }
-    walk::print(part(&script, 0, n));
+    walk::print(rt, part(&script, 0, n))
 }
 
 fn length_of(high: u8, low: u8) -> usize {
@@ -21,9 +21,9 @@ fn length_of(high: u8, low: u8) -> usize {
 }
 
 // How many bytes the next script has; too many where there is none.
-fn read_length() -> usize {
+fn read_length(rt: &impl Input) -> usize {
     let mut head = [0u8; 2];
-    let got = io::read_full(0, &mut head);
+    let got = filling::read_full(&mut rt.reader(), &mut head);
     if got < 2 {
         return MOST;
     }
@@ -31,33 +31,34 @@ fn read_length() -> usize {
 }
 
 // The next script is read; how many bytes it has.
-fn read_next(script: &mut [u8]) -> usize {
-    let n = read_length();
+fn read_next(rt: &impl Input, script: &mut [u8]) -> usize {
+    let n = read_length(rt);
     if script.len() < n {
         return MOST;
     }
-    io::read_full(0, &mut script[..n]);
+    filling::read_full(&mut rt.reader(), &mut script[..n]);
     n
 }
 
 // Whether there was a script.
-fn run_next() -> bool {
+fn run_next(rt: &(impl Input + Print)) -> Result<bool> {
     let mut script = [0u8; MOST - 1];
-    let n = read_next(&mut script);
+    let n = read_next(rt, &mut script);
     if MOST <= n {
-        return false;
+        return Ok(false);
     }
-    walk::print(part(&script, 0, n));
-    write(b"end\n");
-    true
+    walk::print(rt, part(&script, 0, n))?;
+    write(rt, b"end\n")?;
+    Ok(true)
 }
 
-pub fn run_many() {
+pub fn run_many(rt: &(impl Input + Print)) -> Result<()> {
     let mut turns: u32 = 4294967295;
     while 0 < turns {
-        if !run_next() {
-            return;
+        if !run_next(rt)? {
+            return Ok(());
         }
         turns -= 1;
     }
+    Ok(())
 }

@@ -8,6 +8,7 @@ use rules::{Act, Question, Step};
 use script::Parsed;
 use showing::{put, put_step};
 use state::{BatchSemaphore, Stepped};
+use std::io::Result;
 use walking::{Beginning, Begun};
 
 // Room for the text of a recorded script.
@@ -88,30 +89,44 @@ fn run_line(buf: &mut [u8], at: usize, came: Came, said: Parsed) -> Turn {
 }
 
 // What is past the limit is written out.
-fn emptied(buf: &[u8], at: usize, limit: usize) -> usize {
+fn emptied(rt: &impl Print, buf: &[u8], at: usize, limit: usize) -> Result<usize> {
     if at < limit {
-        return at;
+        return Ok(at);
     }
-    bytes::write(bytes::part(buf, 0, at));
-    0
+    bytes::write(rt, bytes::part(buf, 0, at))?;
+    Ok(0)
 }
 
 // The lines from a place on.
-fn run_lines(script: &[u8], from: usize, buf: &mut [u8], limit: usize, first: Turn) -> usize {
+fn run_lines(
+    rt: &impl Print,
+    script: &[u8],
+    from: usize,
+    buf: &mut [u8],
+    limit: usize,
+    first: Turn,
+) -> Result<usize> {
     let mut at = from;
     let mut t = first;
     while at < script.len() {
         let l = reading::read_line(script, at);
         let said = l.said;
-        let n = emptied(buf, t.end, limit);
+        let n = emptied(rt, buf, t.end, limit)?;
         t = run_line(buf, n, t.came, said);
         at = l.next;
     }
-    t.end
+    Ok(t.end)
 }
 
 // A fresh state, and the lines behind it.
-fn run_fresh(script: &[u8], from: usize, buf: &mut [u8], limit: usize, o: Opened) -> usize {
+fn run_fresh(
+    rt: &impl Print,
+    script: &[u8],
+    from: usize,
+    buf: &mut [u8],
+    limit: usize,
+    o: Opened,
+) -> Result<usize> {
     let state = o.begun.state;
     let arrays = o.arrays;
     let stepped = Stepped {
@@ -121,7 +136,7 @@ fn run_fresh(script: &[u8], from: usize, buf: &mut [u8], limit: usize, o: Opened
     };
     let came = Came { stepped, arrays };
     let end = put_step(buf, 0, &[], 0, came);
-    run_lines(script, from, buf, limit, Turn { came, end })
+    run_lines(rt, script, from, buf, limit, Turn { came, end })
 }
 
 // What the first line comes to.
@@ -157,21 +172,21 @@ fn begin(script: &[u8]) -> Opened {
 }
 
 // The text for a script; where it ends in a buffer. Whenever the buffer is full to the limit, it is written out first.
-pub fn run(script: &[u8], buf: &mut [u8], limit: usize) -> usize {
+pub fn run(rt: &impl Print, script: &[u8], buf: &mut [u8], limit: usize) -> Result<usize> {
     let o = begin(script);
     let begun = o.begun;
     let how = begun.how;
     match how {
-        Beginning::Fresh => run_fresh(script, begun.next, buf, limit, o),
-        Beginning::Refused => put(buf, 0, b"r12\n"),
-        Beginning::Bad => put(buf, 0, b"bad\n"),
-        Beginning::Nothing => 0,
+        Beginning::Fresh => run_fresh(rt, script, begun.next, buf, limit, o),
+        Beginning::Refused => Ok(put(buf, 0, b"r12\n")),
+        Beginning::Bad => Ok(put(buf, 0, b"bad\n")),
+        Beginning::Nothing => Ok(0),
     }
 }
 
 // The text for a script is written out.
-pub fn print(script: &[u8]) {
+pub fn print(rt: &impl Print, script: &[u8]) -> Result<()> {
     let mut buf = [0u8; ROOM];
-    let end = run(script, &mut buf, 65536);
-    bytes::write(bytes::part(&buf, 0, end));
+    let end = run(rt, script, &mut buf, 65536)?;
+    bytes::write(rt, bytes::part(&buf, 0, end))
 }

@@ -1,10 +1,9 @@
 // Bundles run or listed.
 ghost use Rattle.std.specs.Prelude.{◌≤◌};
-ghost use Rattle.io.specs.Counts.{IsPrefixLen};
+ghost use Rattle.filling.specs.Counts.{IsPrefixLen};
 
 use super::BUNDLE;
 use super::writing::put;
-use libc::STDIN_FILENO;
 
 // More need not be counted: the count of a bundle has four bytes, so that no table is longer than 4 + 24 * (2^32 - 1) bytes, and of a whole
 // table's bundle it only matters that it is too long.
@@ -26,18 +25,18 @@ fn output() -> [u8; bundle_jobs::OUTPUT] {
 }
 
 // Some bytes of standard input, passed over and counted.
-fn pass_over() -> u64
+fn pass_over(rt: &HostRuntime) -> u64
     ensures { result ≤ 65536 }
 {
-    let mut space = io::large_buffer();
-    io::read_full(STDIN_FILENO, &mut space) as u64
+    let mut space = [0u8; 65536];
+    filling::read_full(&mut rt.stdin(), &mut space) as u64
 }
 
 // How many bytes are left on standard input, or more than enough: a bundle that is too long is judged by how long it is.
-fn count_rest() -> u64 {
+fn count_rest(rt: &HostRuntime) -> u64 {
     let mut more: u64 = 0;
     while more < ENOUGH {
-        let n = pass_over();
+        let n = pass_over(rt);
         if n == 0 {
             return more;
         }
@@ -46,14 +45,14 @@ fn count_rest() -> u64 {
     more
 }
 
-fn read(buf: &mut [u8]) -> Got
+fn read(rt: &HostRuntime, buf: &mut [u8]) -> Got
     ensures { IsPrefixLen result.kept buf.new }
 {
-    let n = io::read_full(STDIN_FILENO, buf);
+    let n = filling::read_full(&mut rt.stdin(), buf);
     if n < buf.len() {
         return Got { kept: n, more: 0 };
     }
-    let more = count_rest();
+    let more = count_rest(rt);
     Got { kept: n, more }
 }
 
@@ -67,12 +66,12 @@ fn print(bundle: &[u8], more: u64, list: bool, out: &mut [u8]) -> usize
 }
 
 // The bundle on standard input, listed or run.
-pub fn show(list: bool) {
+pub fn show(rt: &HostRuntime, list: bool) {
     let mut bundle = input();
-    let got = read(&mut bundle);
+    let got = read(rt, &mut bundle);
     let n = got.kept;
     let more = got.more;
     let mut out = output();
     let k = print(&bundle[..n], more, list, &mut out);
-    put(&out[..k]);
+    put(rt, &out[..k]);
 }

@@ -2,8 +2,6 @@
 // buffer; no contract can say what is read or written: it reads, calls and writes.
 #![tactic(auto)]
 
-use libc::{STDERR_FILENO, STDIN_FILENO};
-
 mod bundles;
 mod packing;
 mod writing;
@@ -21,38 +19,38 @@ fn output() -> [u8; trace::OUTPUT] {
     [0u8; trace::OUTPUT]
 }
 
-fn run() {
+fn run(rt: &HostRuntime) {
     let mut script = input();
-    let n = io::read_full(STDIN_FILENO, &mut script);
+    let n = filling::read_full(&mut rt.stdin(), &mut script);
     let mut out = output();
     let k = trace::run(&script[..n], &mut out);
-    put(&out[..k]);
+    put(rt, &out[..k]);
 }
 
 // By the option.
-fn act(word: &[u8]) {
+fn act(rt: &HostRuntime, word: &[u8]) {
     if check::same(word, b"--bundle") {
-        bundles::show(false);
+        bundles::show(rt, false);
         return;
     }
     if check::same(word, b"--list") {
-        bundles::show(true);
+        bundles::show(rt, true);
         return;
     }
     if check::same(word, b"--pack") {
-        packing::pack();
+        packing::pack(rt);
         return;
     }
-    io::write_all(STDERR_FILENO, b"semtrace: no such option\n");
+    let _ = eprintln!(rt; "semtrace: no such option");
 }
 
 // There is no option for a script.
-fn main() {
-    let mut word = io::buffer();
-    let k = os::arg(1, &mut word);
+fn main(rt: HostRuntime) {
+    let mut word = [0u8; 4096];
+    let k = filling::arg(&rt, 1, &mut word);
     if k == 0 {
-        run();
+        run(&rt);
         return;
     }
-    act(&word[..k]);
+    act(&rt, &word[..k]);
 }

@@ -1,11 +1,13 @@
 // The bundle of some files.
 ghost use Rattle.std.specs.Prelude.{◌≡◌, ◌+◌, ◌≤◌, ◌<◌, length};
-ghost use Rattle.io.specs.Counts.{IsPrefixLen};
+ghost use Rattle.filling.specs.Counts.{IsPrefixLen};
 
 use super::BUNDLE;
-use super::writing::put;
+use super::writing::{fail, put};
 use bundle::{Contents, Written};
-use libc::STDERR_FILENO;
+use std::fs::File;
+use std::io::{Error, ErrorKind, Read, Result};
+use std::str;
 
 // How far the bodies reach in their buffer, and whether every file could be read.
 #[derive(Clone, Copy)]
@@ -37,10 +39,10 @@ fn output() -> [u8; bundle::LONGEST] {
 }
 
 // How many files the arguments name, or 257, which are too many.
-fn files() -> usize
+fn files(rt: &HostRuntime) -> usize
     ensures { result ≤ 257 }
 {
-    let n = os::arg_count();
+    let n = filling::arg_count(rt, 259);
     if n < 2 {
         return 0;
     }
@@ -51,34 +53,45 @@ fn files() -> usize
 }
 
 // Whether a file that gave no more bytes ended there; a read that failed is told, which `read_full` takes for the end.
-fn ended(fd: i32, path: &[u8]) -> bool {
+fn ended(rt: &HostRuntime, file: &mut File, path: &[u8]) -> bool {
     let mut probe = [0u8; 1];
-    if libc::read(fd, &mut probe) < 0 {
-        os::fail(path);
+    if let Err(e) = file.read(&mut probe) {
+        fail(rt, path, e);
         return false;
     }
     true
 }
 
+// The file at a path; std opens paths of UTF-8 alone.
+fn open(rt: &HostRuntime, path: &[u8]) -> Result<File> {
+    match str::from_utf8(path) {
+        Ok(name) => File::open(rt, name),
+        Err(_) => Err(Error::new(ErrorKind::InvalidInput, "a path that is not UTF-8")),
+    }
+}
+
 // The file at a path, into the buffer from a place on.
-fn read_file(path: &[u8], bodies: &mut [u8], at: usize) -> Gathered
+fn read_file(rt: &HostRuntime, path: &[u8], bodies: &mut [u8], at: usize) -> Gathered
     requires { at ≤ length bodies.old }
     ensures { (at ≤ result.at) × (result.at ≤ length bodies.old) }
 {
-    let fd = os::open_read(path);
-    if fd < 0 {
-        os::fail(path);
-        return Gathered { at, whole: false };
+    match open(rt, path) {
+        Err(e) => {
+            fail(rt, path, e);
+            Gathered { at, whole: false }
+        }
+        Ok(mut file) => {
+            let n = filling::read_full(&mut file, &mut bodies[at..]);
+            let full = at + n == bodies.len();
+            let whole = full || ended(rt, &mut file, path);
+            Gathered { at: at + n, whole }
+        }
     }
-    let n = io::read_full(fd, &mut bodies[at..]);
-    let full = at + n == bodies.len();
-    let whole = full || ended(fd, path);
-    libc::close(fd);
-    Gathered { at: at + n, whole }
 }
 
 // The file that argument 2 + i names: its name, its bytes and how many they are.
 fn gather_one(
+    rt: &HostRuntime,
     i: usize,
     at: usize,
     bodies: &mut [u8],
@@ -88,17 +101,23 @@ fn gather_one(
     requires { (i < 256) × (at ≤ length bodies.old) × (length bodies.old ≡ 65537) × (length names.old ≡ 4096) × (length lengths.old ≡ 256) }
     ensures { result.at ≤ length bodies.old }
 {
-    let mut path = io::buffer();
-    let k = os::arg(i + 2, &mut path);
+    let mut path = [0u8; 4096];
+    let k = filling::arg(rt, i + 2, &mut path);
     let name = bundle_jobs::named(&path[..k]);
     text::put(names, bundle::NAME * i, &name);
-    let got = read_file(&path[..k], bodies, at);
+    let got = read_file(rt, &path[..k], bodies, at);
     lengths[i] = (got.at - at) as u32;
     got
 }
 
 // The n files; of too many none is read.
-fn gather(n: usize, bodies: &mut [u8], names: &mut [u8], lengths: &mut [u32]) -> Gathered
+fn gather(
+    rt: &HostRuntime,
+    n: usize,
+    bodies: &mut [u8],
+    names: &mut [u8],
+    lengths: &mut [u32],
+) -> Gathered
     requires { (length bodies.old ≡ 65537) × (length names.old ≡ 4096) × (length lengths.old ≡ 256) }
     ensures { IsPrefixLen result.at bodies.new }
 {
@@ -108,7 +127,7 @@ fn gather(n: usize, bodies: &mut [u8], names: &mut [u8], lengths: &mut [u32]) ->
     let mut at: usize = 0;
     let mut i: usize = 0;
     while i < n {
-        let got = gather_one(i, at, bodies, names, lengths);
+        let got = gather_one(rt, i, at, bodies, names, lengths);
         if !got.whole {
             return got;
         }
@@ -118,28 +137,26 @@ fn gather(n: usize, bodies: &mut [u8], names: &mut [u8], lengths: &mut [u32]) ->
     Gathered { at, whole: true }
 }
 
-fn say(r: Written, out: &[u8]) {
+fn say(rt: &HostRuntime, r: Written, out: &[u8]) {
     match r {
         Written::Wrote(n) => {
             if n <= out.len() {
-                put(&out[..n]);
+                put(rt, &out[..n]);
             }
         }
         Written::Not(why) => {
-            io::write_all(STDERR_FILENO, b"r");
-            io::print_decimal(STDERR_FILENO, bundle_rules::number(why) as u64);
-            io::write_all(STDERR_FILENO, b"\n");
+            let _ = eprintln!(rt; "r{}", bundle_rules::number(why));
         }
     }
 }
 
 // The bundle of the files that the arguments name, or nothing, and why on standard error.
-pub fn pack() {
-    let n = files();
+pub fn pack(rt: &HostRuntime) {
+    let n = files(rt);
     let mut bodies = bodies_room();
     let mut names = names_room();
     let mut lengths = lengths_room();
-    let got = gather(n, &mut bodies, &mut names, &mut lengths);
+    let got = gather(rt, n, &mut bodies, &mut names, &mut lengths);
     if !got.whole {
         return;
     }
@@ -151,5 +168,5 @@ pub fn pack() {
     };
     let mut out = output();
     let r = bundle::write(contents, &bodies[..at], &mut out);
-    say(r, &out);
+    say(rt, r, &out);
 }
