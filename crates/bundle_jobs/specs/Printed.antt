@@ -1,5 +1,5 @@
 -- What is printed for a bundle: its scripts run, or its contents listed.
-use Rattle.std.specs.Prelude.{ℕ, suc, ◌+◌, ◌*◌, ◌≤◌, ◌<◌, ◌≡◌, List, [], ◌∷◌, ◌++◌, length, take, drop}
+use Rattle.std.specs.Prelude.{ℕ, suc, ◌*◌, ◌≤◌, ◌<◌, ◌≡◌, List, [], ◌∷◌, ◌++◌, length, take, drop}
 use Rattle.rules.specs.Text.{bytes, space, before, digits}
 use Rattle.rules.specs.Script.{end_line, printed, byte_room}
 use Rattle.bundle_rules.specs.declared.Refusal.{Refusal}

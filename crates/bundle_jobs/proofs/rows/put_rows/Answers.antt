@@ -1,7 +1,6 @@
 -- `rows::put_rows`: the lines of i rows are written, and those behind them are left.
 use native.Mathlib.Omega.{arith}
 use borrow.Author.Rules.{rules}
-use Prim.Native.Nat.{◌-◌}
 use Rattle.bundle_jobs.proofs.Turns.{turn_none, turn-length, turn_end, row_room_lem, row_more, rows_end}
 use Rattle.bundle_jobs.proofs.rows.put_rows.Goals as goal
 

@@ -1,7 +1,6 @@
 -- `rows::put_scripts`: i scripts are run, and those behind them are left.
 use native.Mathlib.Omega.{arith}
 use borrow.Author.Rules.{rules}
-use Prim.Native.Nat.{◌-◌}
 use Rattle.bundle_jobs.proofs.Turns.{turn_none, turn_end, script_fits, script_more, scripts_length, scripts_end}
 use Rattle.bundle_jobs.proofs.rows.put_scripts.Goals as goal
 
