@@ -9,7 +9,7 @@ top=$PWD
 copy=$top/target/faulty
 rm -rf "$copy"
 mkdir -p "$copy"
-cp -R crates crates.txt "$copy"
+tar -cf - --exclude=out crates crates.txt | tar -xf - -C "$copy"
 
 # The crates that `replay` rests on, from crates.txt, in its order.
 crates=$(awk -F: '
@@ -68,15 +68,19 @@ apply() {
 # What the log of a run says: where the sample showed the fault, or that the program did not end well; or that
 # nothing was found.
 found() {
-    shown=$(sed -n 's/.*found ".*\(script [0-9]*, line [0-9]*\).*/found: \1/p; s/^FAIL: the native program at -O0 \(did not end.*\|was ended.*\|failed, .*\)/found: it \1/p' "$copy/log" | head -n 1)
+    shown=$(sed -n 's/^script [0-9]*, line [0-9]*$/found: &/p; s/^checked: \(fault.*\|no-answer.*\|ended status=[1-9].*\)/found: it \1/p' "$copy/log" | head -n 1)
     if [ -n "$shown" ]; then
         echo "$shown"
-    elif grep -q '^ok: the native program at -O0' "$copy/log"; then
+    elif grep -q '^checked: ended status=0' "$copy/log"; then
         echo 'NOT FOUND'
     else
-        echo "see below: $(grep -m 1 -v '^skipped' "$copy/log" | cut -c1-200)"
+        echo "see below: $(grep -m 1 -E 'error|rt:' "$copy/log" | cut -c1-200)"
     fi
 }
+
+# The program runs in a folder with copies of the scripts and of the states that were recorded.
+data=
+for file in crates/replay/data/*; do data="$data --data ${file##*/}=data/${file##*/}"; done
 
 hidden=0
 for name in $names; do
@@ -85,7 +89,8 @@ for name in $names; do
     [ -f "$edit" ] || edit=$top/oracle/faults/ours/$name.edit
     cp "crates/$crate/src/"*.rt "$copy/crates/$crate/src/"
     if apply "$edit" "$crate"; then
-        (cd "$copy" && timeout 300 rt try replay) >"$copy/log" 2>&1
+        # shellcheck disable=SC2086
+        (cd "$copy/crates/replay" && timeout 300 rt try --steps 1000 $data) >"$copy/log" 2>&1
         shown=$(found)
     else
         shown='does not apply'
