@@ -11,10 +11,11 @@ the edits of must-fail/.
 import glob
 import os
 import re
+import subprocess
 import sys
 
 TOP = os.getcwd()
-KIT = os.environ.get("RATTLE_KIT", "/opt/rattle")
+KIT = os.path.dirname(subprocess.run(["rt", "doc"], capture_output=True, text=True, check=True).stdout.split()[-1])
 
 # One name: what stands between blanks, brackets, dots and the like.
 NAME = re.compile(r"[^\s(){}\[\].,;:=λ→×⌜⌝`\"|¬]+")
