@@ -13,7 +13,7 @@ use Rattle.bundle_rules.specs.Bundled.{name_length, row_length, unmarked, longes
 use Rattle.bundle_rules.proofs.Numbers.{bytes-length}
 use Rattle.bundle.specs.Contents.{sum_of, Lent}
 use Rattle.bundle.specs.Writing.{rows_bytes, RowsPut, BundlePut}
-use Rattle.bundle.proofs.Said.{sizes_left, rows_left_lem, row_at, sum_left, rows_left, none_left}
+use Rattle.bundle.proofs.Said.{sizes_left, rows_left, row_at, sum_left, rows_left_lem, none_left}
 
 number-length : (n : ℕ) → length (bytes_of number_length n) ≡ number_length
 number-length n = bytes-length number_length n
@@ -41,11 +41,11 @@ pub record Putting (old ms ls : List ℕ) (n : ℕ) (out : List ℕ) (p at i : �
   pub place : p ≡ contents_length i
   pub same : length out ≡ length old
   pub short : at + sum_of (sizes_left ls n i) ≤ longest
-  pub onward : (new : List ℕ) (r : ℕ) → Appended out p (table_bytes (rows_left_lem ms ls n at i)) new r → Appended old number_length (table_bytes (rows_left_lem ms ls n (contents_length n) 0)) new r
+  pub onward : (new : List ℕ) (r : ℕ) → Appended out p (table_bytes (rows_left ms ls n at i)) new r → Appended old number_length (table_bytes (rows_left ms ls n (contents_length n) 0)) new r
 
-left-bytes : (ms ls : List ℕ) (n i at : ℕ) → i < n → n ≤ length ls → table_bytes (rows_left_lem ms ls n at i) ≡ row_bytes (row_at ms ls at i) ++ table_bytes (rows_left_lem ms ls n (at + get_or ls i 0) (i + 1))
+left-bytes : (ms ls : List ℕ) (n i at : ℕ) → i < n → n ≤ length ls → table_bytes (rows_left ms ls n at i) ≡ row_bytes (row_at ms ls at i) ++ table_bytes (rows_left ms ls n (at + get_or ls i 0) (i + 1))
 unfolding table_bytes
-left-bytes ms ls n i at h sized = ap table_bytes (rows_left ls n i h sized ms at)
+left-bytes ms ls n i at h sized = ap table_bytes (rows_left_lem ls n i h sized ms at)
 
 pub rows_start : (old ms ls : List ℕ) (n : ℕ) → Lent ms ls n longest → Putting old ms ls n old number_length (contents_length n) 0
 rows_start old ms ls n l =

@@ -17,8 +17,8 @@ abbrev pub sizes_left : List ℕ → ℕ → ℕ → List ℕ
 sizes_left ls n i = take (n - i) (drop i ls)
 
 -- the rows that are left, the next body standing at `at`
-abbrev pub rows_left_lem : List ℕ → List ℕ → ℕ → ℕ → ℕ → List Row
-rows_left_lem ms ls n at i = rows_from at (stretches name_length (n - i) (drop (name_length * i) ms)) (sizes_left ls n i)
+abbrev pub rows_left : List ℕ → List ℕ → ℕ → ℕ → ℕ → List Row
+rows_left ms ls n at i = rows_from at (stretches name_length (n - i) (drop (name_length * i) ms)) (sizes_left ls n i)
 
 -- and the next of them
 abbrev pub row_at : List ℕ → List ℕ → ℕ → ℕ → Row
@@ -35,14 +35,14 @@ module _ (ls : List ℕ) (n i : ℕ) (h : i < n) (sized : n ≤ length ls) where
   unfolding sum_of
   sum_left = rw (one_less, lengths-next)
 
-  pub rows_left : (ms : List ℕ) (at : ℕ) → rows_left_lem ms ls n at i ≡ row_at ms ls at i ∷ rows_left_lem ms ls n (at + get_or ls i 0) (i + 1)
+  pub rows_left_lem : (ms : List ℕ) (at : ℕ) → rows_left ms ls n at i ≡ row_at ms ls at i ∷ rows_left ms ls n (at + get_or ls i 0) (i + 1)
   unfolding rows_from stretches
-  rows_left ms at =
+  rows_left_lem ms at =
       let names-next : drop name_length (drop (name_length * i) ms) ≡ drop (name_length * (i + 1)) ms =
       drop-drop name_length (name_length * i) ms ∙ ap (λ (k : ℕ). drop k ms) {x = name_length * i + name_length} {y = name_length * (i + 1)} (omega arith) in
       rw (one_less, lengths-next, names-next)
 
-pub none_left : (ms ls : List ℕ) (n at i : ℕ) → n ≤ i → rows_left_lem ms ls n at i ≡ []
+pub none_left : (ms ls : List ℕ) (n at i : ℕ) → n ≤ i → rows_left ms ls n at i ≡ []
 unfolding rows_from stretches
 none_left ms ls n at i h = let z : n - i ≡ 0 = omega arith in rw z
 

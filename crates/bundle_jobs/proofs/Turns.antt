@@ -14,7 +14,7 @@ use Rattle.text.specs.Writing.{Appended}
 use Rattle.text.proofs.Buffer.{appended_none, appended_then, appended_length}
 use Rattle.bundle_rules.specs.Bundled.{name_length, longest, contents_length, Row}
 use Rattle.bundle.specs.Contents.{sum_of, rows_said, end_of, Lent}
-use Rattle.bundle.proofs.Said.{sizes_left, rows_left_lem, row_at, sum_left, rows_left, none_left}
+use Rattle.bundle.proofs.Said.{sizes_left, rows_left, row_at, sum_left, rows_left_lem, none_left}
 use Rattle.bundle_jobs.specs.Printed.{heading_text, row_text, rows_text, scripts_text, room_for}
 use Rattle.bundle_jobs.specs.Placing.{script_room, row_room, scripts_at}
 use Rattle.bundle_jobs.proofs.Pieces.{heading_length, row-length}
@@ -44,7 +44,7 @@ scripts_made s = record { none = refl; more = λ r rs. refl }
 pub record Turn (text_of : List Row → List ℕ) (names sizes : List ℕ) (n : ℕ) (old : List ℕ) (i from : ℕ) (out : List ℕ) (at : ℕ) : Type 0 where
   pub text : List ℕ
   pub put : Appended old 0 text out at
-  pub left : text ++ text_of (rows_left_lem names sizes n from i) ≡ text_of (rows_said n names sizes)
+  pub left : text ++ text_of (rows_left names sizes n from i) ≡ text_of (rows_said n names sizes)
   pub ends : from + sum_of (sizes_left sizes n i) ≡ end_of n sizes
   pub short : at + row_room * (n - i) ≤ byte_room * from
   pub within : i ≤ n
@@ -83,13 +83,13 @@ module _ {text_of : List Row → List ℕ} {names sizes : List ℕ} {n : ℕ} {o
       → Appended out at (piece (row_at names sizes from i)) new r → Turn text_of names sizes n old (i + 1) (from + get_or sizes i 0) new r
   turn_more {piece} m f l h b p =
       let row = row_at names sizes from i in
-      let rest = rows_left_lem names sizes n (from + get_or sizes i 0) (i + 1) in
+      let rest = rows_left names sizes n (from + get_or sizes i 0) (i + 1) in
       record {
         text = t.text ++ piece row;
         put = appended_then t.put (turn-fits f) p;
         left =
             append_assoc t.text (piece row) (text_of rest)
-            ∙ ap (λ (x : List ℕ). t.text ++ x) (sym (m.more row rest) ∙ ap text_of (sym (rows_left sizes n i h l names from)))
+            ∙ ap (λ (x : List ℕ). t.text ++ x) (sym (m.more row rest) ∙ ap text_of (sym (rows_left_lem sizes n i h l names from)))
             ∙ t.left;
         ends = omega (arith, t.ends, sum_left sizes n i h l);
         short = omega (arith, t.short, p.end);

@@ -6,9 +6,9 @@ ghost use Rattle.std.specs.Prelude.{◌≡◌, false, ◌&&◌, List, ℕ, ◌*�
 ghost use Rattle.std.proofs.Math.Option.{none};
 ghost use Rattle.rules.specs.Sizes.{slot_count};
 ghost use Rattle.rules.specs.State.{is_strict};
-ghost use Rattle.rules.specs.Polling.{queues as queuesBy, takes_in, polled as polledOf};
-ghost use Rattle.rules.specs.Refusals.{returned as returnedOf};
-ghost use Rattle.splitting.specs.Who.{direct as directOf, poll_reserving, by_direct, poll_plain, polling as pollingOf, dropping as droppingOf};
+ghost use Rattle.rules.specs.Polling.{queues as queues_by, takes_in, polled as polled_of};
+ghost use Rattle.rules.specs.Refusals.{returned as returned_of};
+ghost use Rattle.splitting.specs.Who.{direct as direct_of, poll_reserving, by_direct, poll_plain, polling as polling_of, dropping as dropping_of};
 ghost use Rattle.queue.specs.View.{waiters_of};
 ghost use Rattle.records.specs.View.{request_of, Stands};
 ghost use Rattle.words.specs.View.{request_words, slots_of};
@@ -67,7 +67,7 @@ pub fn takes_in(p: Polling) -> bool
 
 // The answer of a poll.
 pub fn polled(p: Polling) -> Polled
-    ensures { result ≡ polledOf p }
+    ensures { result ≡ polled_of p }
 {
     match p {
         Polling::Holds => Polled::Granted,
@@ -83,7 +83,7 @@ pub fn polled(p: Polling) -> Polled
 
 // How many permits a drop gives back of those asked.
 pub fn returned(d: Dropping, n: u32) -> u32
-    ensures { result ≡ returnedOf d n }
+    ensures { result ≡ returned_of d n }
 {
     match d {
         Dropping::Leaving => 0,
@@ -133,7 +133,7 @@ fn may_pass(h: Head, slots: &[u32], kind: Priority) -> bool
 // The direct rule.
 pub fn direct(h: Head, slots: &[u32], num_permits: u32, kind: Priority) -> Direct
     requires { (h.waiters.len ≤ slot_count) × (length slots.now ≡ slot_count * request_words) }
-    ensures { (tasks : List ℕ) → result ≡ directOf kind num_permits (plain_of h slots.now tasks) }
+    ensures { (tasks : List ℕ) → result ≡ direct_of kind num_permits (plain_of h slots.now tasks) }
 {
     if h.closed {
         return Direct::Shut;
@@ -153,7 +153,7 @@ pub fn direct(h: Head, slots: &[u32], num_permits: u32, kind: Priority) -> Direc
 // ---- a poll
 // Where a request that is not queued joins the queue.
 fn joins(kind: Priority) -> Polling
-    ensures { result ≡ queuesBy kind false }
+    ensures { result ≡ queues_by kind false }
 {
     match kind {
         Priority::Back => Polling::QueuesBack,
@@ -164,7 +164,7 @@ fn joins(kind: Priority) -> Polling
 
 // A request that cannot go on queues, unless it is queued.
 fn queues(kind: Priority, queued: bool) -> Polling
-    ensures { result ≡ queuesBy kind queued }
+    ensures { result ≡ queues_by kind queued }
 {
     if queued {
         return Polling::Stays;
@@ -238,7 +238,7 @@ fn poll_plain(h: Head, slots: &[u32], r: Request) -> Polling
 // What a poll does, of the request that was read at the slot.
 pub fn polling(h: Head, slots: &[u32], x: Slot, r: Request) -> Polling
     requires { (h.waiters.len ≤ slot_count) × (length slots.now ≡ slot_count * request_words) × (Stands r (get_or (slots_of slots.now) x.0 none)) }
-    ensures { (tasks : List ℕ) → result ≡ pollingOf x (plain_of h slots.now tasks) }
+    ensures { (tasks : List ℕ) → result ≡ polling_of x (plain_of h slots.now tasks) }
 {
     if r.holding {
         return Polling::Holds;
@@ -256,7 +256,7 @@ pub fn polling(h: Head, slots: &[u32], x: Slot, r: Request) -> Polling
 // What a drop does before the slot is free: the request that was read there is queued, has the reservation, or holds permits that nobody
 // was told of.
 pub fn dropping(h: Head, x: Slot, r: Request) -> Dropping
-    ensures { (slots tasks : List ℕ) → Stands r (get_or (slots_of slots) x.0 none) → result ≡ droppingOf x (plain_of h slots tasks) }
+    ensures { (slots tasks : List ℕ) → Stands r (get_or (slots_of slots) x.0 none) → result ≡ dropping_of x (plain_of h slots tasks) }
 {
     if r.queued {
         return Dropping::Leaving;

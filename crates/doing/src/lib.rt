@@ -9,7 +9,7 @@ ghost use Rattle.rules.specs.Sizes.{slot_count};
 ghost use Rattle.rules.specs.Broken.{twice};
 ghost use Rattle.rules.specs.Steps.Answer.{done, pending};
 ghost use Rattle.splitting.specs.Plain.{with_reservation, alter_request, polled_pending, ◌▷◌};
-ghost use Rattle.splitting.specs.Who.{taking, queue_back, queue_front, leave, wake_unfair, reblock, quiet as quietOf, try_by, scan_or_wake, release as releaseOf, drop_work, closing};
+ghost use Rattle.splitting.specs.Who.{taking, queue_back, queue_front, leave, wake_unfair, reblock, quiet as quiet_of, try_by, scan_or_wake, release as release_of, drop_work, closing};
 ghost use Rattle.replies.specs.declared.Reply.TheVariants.{Done};
 ghost use Rattle.replies.specs.Answers.{answer_of};
 ghost use Rattle.queue.specs.View.{waiters_of};
@@ -41,7 +41,7 @@ fn unmoved(h: Head) -> Answered {
 // What a poll ends with that takes nothing: its request's marks, and its reply.
 fn polled(h: Head, slots: &mut [u32], x: Slot, m: Marking, reply: Reply) -> Answered
     requires { length slots.old ≡ slot_count * request_words }
-    ensures { SlotsAnswer (λ s. quietOf (answer_of reply) (alter_request x (marking m) s)) result slots.new h slots.old }
+    ensures { SlotsAnswer (λ s. quiet_of (answer_of reply) (alter_request x (marking m) s)) result slots.new h slots.old }
 {
     words::mark(slots, x, m);
     Answered {
@@ -54,7 +54,7 @@ fn polled(h: Head, slots: &mut [u32], x: Slot, m: Marking, reply: Reply) -> Answ
 // The request joins the queue, in front of it or at its back, and its task waits.
 fn wait_in_queue(h: Head, slots: &mut [u32], me: TaskId, x: Slot, front: bool) -> Answered
     requires { (length slots.old ≡ slot_count * request_words) × (length (waiters_of h.waiters) < slot_count) }
-    ensures { SlotsAnswer (λ s. quietOf pending (alter_request x (polled_pending me) (cond front (queue_front x s) (queue_back x s)))) result slots.new h slots.old }
+    ensures { SlotsAnswer (λ s. quiet_of pending (alter_request x (polled_pending me) (cond front (queue_front x s) (queue_back x s)))) result slots.new h slots.old }
 {
     let joined = scanning::enqueue_waiter(h, slots, x, front);
     let m = Marking::PollsPending(me);
@@ -129,7 +129,7 @@ fn take_and_leave(
 // A request takes the reservation, and its task waits.
 fn reserve(h: Head, slots: &mut [u32], tasks: &mut [u32], me: TaskId, x: Slot) -> Answered
     requires { Shaped h slots.old tasks.old }
-    ensures { AnyGrants result slots.new tasks.new (quietOf pending (alter_request x (polled_pending me) (plain_of h slots.old tasks.old ▷ leave x ▷ with_reservation (some x) ▷ reblock me))) }
+    ensures { AnyGrants result slots.new tasks.new (quiet_of pending (alter_request x (polled_pending me) (plain_of h slots.old tasks.old ▷ leave x ▷ with_reservation (some x) ▷ reblock me))) }
 {
     let mut mine = scanning::leave(h, slots, x);
     let reservation = Reservation::of(x);
@@ -218,7 +218,7 @@ fn release(
     num_permits: u32,
 ) -> Granting
     requires { (Shaped h slots.old tasks.old) × (length grants.old ≡ slot_count * 3) × (twice (waiters_of h.waiters) ≡ false) × MayRelease num_permits (plain_of h slots.old tasks.old) }
-    ensures { Grants result slots.new tasks.new grants.new (releaseOf num_permits (plain_of h slots.old tasks.old)) }
+    ensures { Grants result slots.new tasks.new grants.new (release_of num_permits (plain_of h slots.old tasks.old)) }
 {
     if num_permits == 0 {
         return Granting { head: h, count: 0 };
@@ -297,7 +297,7 @@ fn done_with(g: Granting) -> Answered
 // The semaphore is closed.
 fn close(h: Head, slots: &mut [u32], tasks: &mut [u32]) -> Answered
     requires { Shaped h slots.old tasks.old }
-    ensures { AnyGrants result slots.new tasks.new (quietOf done (closing (plain_of h slots.old tasks.old))) }
+    ensures { AnyGrants result slots.new tasks.new (quiet_of done (closing (plain_of h slots.old tasks.old))) }
 {
     let closed = closing::close(h, slots, tasks);
     let reply = Reply::Done;

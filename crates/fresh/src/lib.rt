@@ -7,7 +7,7 @@ ghost use Rattle.rules.specs.Sizes.{max_tasks, slot_count, width};
 ghost use Rattle.rules.specs.Clock.{empty};
 ghost use Rattle.rules.specs.Fresh.{fresh, refused_fresh};
 ghost use Rattle.rules.specs.Steps.{quiet};
-ghost use Rattle.rules.specs.Steps.Answer.{done, refused as refusedWith};
+ghost use Rattle.rules.specs.Steps.Answer.{done, refused as refused_with};
 ghost use Rattle.rules.specs.Runs.{start};
 ghost use Rattle.splitting.specs.Asking.{fresh_clocks, fresh_batches};
 ghost use Rattle.words.specs.View.{request_words, task_words};
@@ -169,8 +169,8 @@ fn refuse(
     makers: &mut [u32],
     clocks: &mut [u32],
 ) -> Started
-    requires { Sized (record { slots = slots.now; tasks = tasks.old; sizes = sizes.old; rows = rows.old; last = last.old; makers = makers.old; clocks = clocks.old }) }
-    ensures { Gives result (record { slots = slots.exit.now; tasks = tasks.new; sizes = sizes.new; rows = rows.new; last = last.new; makers = makers.new; clocks = clocks.new }) (quiet (refusedWith 12) refused_fresh) }
+    requires { Sized (record { slots = slots.old; tasks = tasks.old; sizes = sizes.old; rows = rows.old; last = last.old; makers = makers.old; clocks = clocks.old }) }
+    ensures { Gives result (record { slots = slots.new; tasks = tasks.new; sizes = sizes.new; rows = rows.new; last = last.new; makers = makers.new; clocks = clocks.new }) (quiet (refused_with 12) refused_fresh) }
 {
     clear(last);
     let fairness = Fairness::StrictlyFair;
@@ -198,8 +198,8 @@ fn begin_made(
     makers: &mut [u32],
     clocks: &mut [u32],
 ) -> Started
-    requires { (n ≤ max_tasks) × (length starts.now ≡ n * n) × (maker.0 < n) × (Sized (record { slots = slots.now; tasks = tasks.old; sizes = sizes.old; rows = rows.old; last = last.old; makers = makers.old; clocks = clocks.old })) }
-    ensures { Gives result (record { slots = slots.exit.now; tasks = tasks.new; sizes = sizes.new; rows = rows.new; last = last.new; makers = makers.new; clocks = clocks.new }) (quiet done (fresh (record { fairness = fairness; stock = stock; tasks = n; clocks = starts.now; maker = some maker }))) }
+    requires { (n ≤ max_tasks) × (length starts.now ≡ n * n) × (maker.0 < n) × (Sized (record { slots = slots.old; tasks = tasks.old; sizes = sizes.old; rows = rows.old; last = last.old; makers = makers.old; clocks = clocks.old })) }
+    ensures { Gives result (record { slots = slots.new; tasks = tasks.new; sizes = sizes.new; rows = rows.new; last = last.new; makers = makers.new; clocks = clocks.new }) (quiet done (fresh (record { fairness = fairness; stock = stock; tasks = n; clocks = starts.now; maker = some maker }))) }
 {
     let head = start_who(fairness, false, stock, n, slots, tasks);
     let batches = start_made(stock, starts, n as usize, maker, sizes, rows, last, clocks);
@@ -224,8 +224,8 @@ fn begin_unmade(
     makers: &mut [u32],
     clocks: &mut [u32],
 ) -> Started
-    requires { (n ≤ max_tasks) × (length starts.now ≡ n * n) × (Sized (record { slots = slots.now; tasks = tasks.old; sizes = sizes.old; rows = rows.old; last = last.old; makers = makers.old; clocks = clocks.old })) }
-    ensures { Gives result (record { slots = slots.exit.now; tasks = tasks.new; sizes = sizes.new; rows = rows.new; last = last.new; makers = makers.new; clocks = clocks.new }) (quiet done (fresh (record { fairness = fairness; stock = stock; tasks = n; clocks = starts.now; maker = none }))) }
+    requires { (n ≤ max_tasks) × (length starts.now ≡ n * n) × (Sized (record { slots = slots.old; tasks = tasks.old; sizes = sizes.old; rows = rows.old; last = last.old; makers = makers.old; clocks = clocks.old })) }
+    ensures { Gives result (record { slots = slots.new; tasks = tasks.new; sizes = sizes.new; rows = rows.new; last = last.new; makers = makers.new; clocks = clocks.new }) (quiet done (fresh (record { fairness = fairness; stock = stock; tasks = n; clocks = starts.now; maker = none }))) }
 {
     let head = start_who(fairness, false, stock, n, slots, tasks);
     let batches = start_unmade(starts, n as usize, last, clocks);
@@ -251,7 +251,7 @@ pub fn new(
     makers: &mut [u32; 512],
     clocks: &mut [u32; 256],
 ) -> Started
-    ensures { Gives result (record { slots = slots.exit.now; tasks = tasks.new; sizes = sizes.new; rows = rows.new; last = last.new; makers = makers.new; clocks = clocks.new }) (start (record { fairness = fairness; stock = stock; tasks = count; clocks = starts.now; maker = some maker })) }
+    ensures { Gives result (record { slots = slots.new; tasks = tasks.new; sizes = sizes.new; rows = rows.new; last = last.new; makers = makers.new; clocks = clocks.new }) (start (record { fairness = fairness; stock = stock; tasks = count; clocks = starts.now; maker = some maker })) }
 {
     if is_refused(count, starts.len(), maker) {
         return refuse(slots, tasks, sizes, rows, last, makers, clocks);
@@ -275,7 +275,7 @@ pub fn const_new(
     makers: &mut [u32; 512],
     clocks: &mut [u32; 256],
 ) -> Started
-    ensures { Gives result (record { slots = slots.exit.now; tasks = tasks.new; sizes = sizes.new; rows = rows.new; last = last.new; makers = makers.new; clocks = clocks.new }) (start (record { fairness = fairness; stock = stock; tasks = count; clocks = starts.now; maker = none })) }
+    ensures { Gives result (record { slots = slots.new; tasks = tasks.new; sizes = sizes.new; rows = rows.new; last = last.new; makers = makers.new; clocks = clocks.new }) (start (record { fairness = fairness; stock = stock; tasks = count; clocks = starts.now; maker = none })) }
 {
     if is_bad_start(count, starts.len()) {
         return refuse(slots, tasks, sizes, rows, last, makers, clocks);

@@ -33,7 +33,7 @@ pub fn next<'a>(r: Lines<'a>) -> NextLine
     text::next_line(r.src, r.at)
 }
 
-// The line at a place, by way of the reader: whoever calls this needs no walk.
+// The line at a place, by way of the reader.
 pub fn line_at(s: &[u8], at: usize) -> NextLine
     ensures { NextIs s.now at result }
 {

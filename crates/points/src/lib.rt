@@ -7,7 +7,7 @@ ghost use Rattle.rules.specs.declared.Slot.{Slot as SlotRule};
 ghost use Rattle.rules.specs.declared.Question.TheVariants.{BeforeTryUpgrade, BeforePoll, BeforeDrop, BeforeDropAgain};
 ghost use Rattle.rules.specs.Sizes.{slot_count};
 ghost use Rattle.splitting.specs.Plain.{Plain};
-ghost use Rattle.splitting.specs.Asking.{waits as waitsOf, point as point_of, told_of};
+ghost use Rattle.splitting.specs.Asking.{waits as waits_of, point as point_of, told_of};
 ghost use Rattle.records.specs.View.{Stands};
 ghost use Rattle.words.specs.View.{request_words, slots_of};
 ghost use Rattle.head.specs.View.{plain_of, Shaped};
@@ -51,7 +51,7 @@ fn before_poll(h: Head, r: Request) -> bool
 
 // A drop's first question: queued or having the reservation.
 fn waits(h: Head, x: Slot, r: Request) -> bool
-    ensures { (slots tasks : List ℕ) → Stands r (get_or (slots_of slots) x.0 none) → result ≡ waitsOf x (plain_of h slots tasks) }
+    ensures { (slots tasks : List ℕ) → Stands r (get_or (slots_of slots) x.0 none) → result ≡ waits_of x (plain_of h slots tasks) }
 {
     if r.queued {
         return true;

@@ -8,7 +8,7 @@ ghost use Rattle.rules.specs.Sizes.{slot_count, max_tasks};
 ghost use Rattle.rules.specs.State.{is_strict};
 ghost use Rattle.rules.specs.Broken.{twice};
 ghost use Rattle.rules.specs.Steps.{is_first};
-ghost use Rattle.splitting.specs.Who.{queue_back, queue_front, leave as leaveOf, grant_queued, scan, drop_queued};
+ghost use Rattle.splitting.specs.Who.{queue_back, queue_front, leave as leave_of, grant_queued, scan, drop_queued};
 ghost use Rattle.queue.specs.View.{waiters_of, Holds};
 ghost use Rattle.records.specs.View.{request_of, Stands};
 ghost use Rattle.words.specs.View.{request_words, task_words, slots_of, tasks_of};
@@ -47,7 +47,7 @@ pub fn enqueue_waiter(h: Head, slots: &mut [u32], x: Slot, front: bool) -> Head
 // The request in a slot leaves the queue, if it is in it.
 pub fn leave(h: Head, slots: &mut [u32], x: Slot) -> Head
     requires { (h.waiters.len ≤ slot_count) × (length slots.old ≡ slot_count * request_words) }
-    ensures { AnyTasks (leaveOf x) result slots.new h slots.old }
+    ensures { AnyTasks (leave_of x) result slots.new h slots.old }
 {
     let m = Marking::Leaves;
     words::mark(slots, x, m);
@@ -61,7 +61,7 @@ pub fn leave(h: Head, slots: &mut [u32], x: Slot) -> Head
 // The same where its place in the queue is known.
 fn leave_at(h: Head, slots: &mut [u32], x: Slot, i: usize) -> Head
     requires { (h.waiters.len ≤ slot_count) × (length slots.old ≡ slot_count * request_words) × StandsAt x i (waiters_of h.waiters) }
-    ensures { AnyTasks (leaveOf x) result slots.new h slots.old }
+    ensures { AnyTasks (leave_of x) result slots.new h slots.old }
 {
     let m = Marking::Leaves;
     words::mark(slots, x, m);

@@ -4,7 +4,7 @@
 
 ghost use Rattle.std.specs.Prelude.{◌≡◌, min, length};
 ghost use Rattle.rules.specs.Sizes.{max_tasks};
-ghost use Rattle.rules.specs.State.{strict as strictOf, available as availableOf, stock as stockOf, task_at, request_at};
+ghost use Rattle.rules.specs.State.{strict as strict_of, available as available_of, stock as stock_of, task_at, request_at};
 ghost use Rattle.splitting.specs.Split.{forget_task};
 ghost use Rattle.records.specs.View.{task_seen};
 ghost use Rattle.state.specs.View.{Words, view_of, RequestRead};
@@ -40,7 +40,7 @@ fn worded(n: u32) -> u32
 impl BatchSemaphore {
     // Whether it is strictly fair.
     pub fn strictly_fair(self) -> bool
-        ensures { (w : Words) → result ≡ strictOf (view_of self w) }
+        ensures { (w : Words) → result ≡ strict_of (view_of self w) }
     {
         let head = self.head;
         head.strictly_fair()
@@ -48,14 +48,14 @@ impl BatchSemaphore {
 
     // The permits that a request can take now: none while one has the reservation.
     pub fn available_permits(self) -> u32
-        ensures { (w : Words) → result ≡ availableOf (view_of self w) }
+        ensures { (w : Words) → result ≡ available_of (view_of self w) }
     {
         let head = self.head;
         head.available_permits()
     }
 
     pub fn stock(self) -> u32
-        ensures { (w : Words) → result ≡ stockOf (view_of self w) }
+        ensures { (w : Words) → result ≡ stock_of (view_of self w) }
     {
         self.head.stock
     }
