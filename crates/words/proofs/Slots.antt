@@ -117,7 +117,7 @@ put_past w i o l = record { view = sym (set_out (slots_of w) i o (omega (arith, 
 
 pub mark_there : (w after ws : List ℕ) (x : Slot) (m : Marking) (r q : Request) → x.0 < slot_count → ws ≡ row request_words w x.0 → r ≡ decoded ws
     → Changed (marking m) r q → SlotsShow after w (set (slots_of w) x.0 (seen q)) → SlotsShow after w (altered x (marking m) (slots_of w))
-mark_there w after ws x m r q l ew er c p =
+mark_there w _ ws x m r q l ew er c p =
     record {
       view =
           p.view
@@ -130,7 +130,7 @@ pub mark_past : (w : List ℕ) (x : Slot) (m : Marking) → slot_count ≤ x.0 �
 mark_past w x m l = put_past w x.0 (map (marking m) (get_or (slots_of w) x.0 none)) l
 
 pub freed : (w after : List ℕ) (x : Slot) (r : Request) → Stands r none → SlotsShow after w (set (slots_of w) x.0 (seen r)) → SlotsShow after w (set (slots_of w) x.0 none)
-freed w after x r s p = record { view = p.view ∙ ap (λ (o : Option RequestRule). set (slots_of w) x.0 o) s.used; stand = p.stand }
+freed w _ x r s p = record { view = p.view ∙ ap (λ (o : Option RequestRule). set (slots_of w) x.0 o) s.used; stand = p.stand }
 
 -- the words that were made one by one
 pub encoded_by : (r : Request) (u k s q h d p : ℕ) → u ≡ mark_word r.used → k ≡ kind_word r.ask.kind → s ≡ mark_word r.ask.reserving

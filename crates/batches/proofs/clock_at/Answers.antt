@@ -1,4 +1,3 @@
--- A row is read, an entry a turn.
 use mathlib.Core.Path.{refl}
 use borrow.Author.Rules.{rules}
 use Rattle.tables.proofs.Rows.{reads_more, reads_whole}

@@ -1,4 +1,3 @@
--- A row is written over, an entry a turn.
 use borrow.Author.Rules.{rules}
 use lib.Seq.{paste-zero}
 use Rattle.tables.proofs.Rows.{writes_more, writes_whole}

@@ -1,4 +1,3 @@
--- Those passed are Bypassable: what holds from here on holds of all.
 use Rattle.rules.proofs.Places.{unmap}
 use Rattle.choosing.proofs.Looking.{one_blocks, one_passes, all_pass}
 use borrow.Author.Rules.{rules}

@@ -1,4 +1,3 @@
--- A slot a turn.
 use borrow.Author.Rules.{rules}
 use Rattle.rules.proofs.Places.{unmap}
 use Rattle.closing.proofs.Emptying.{emptying, emptying_on, emptied}

@@ -1,4 +1,3 @@
--- The words are cleared, one a turn.
 use borrow.Author.Rules.{rules}
 use Rattle.fresh.proofs.Clearing.{clears_none, clears_more, clears_all}
 use Rattle.fresh.proofs.clear.Goals as goal

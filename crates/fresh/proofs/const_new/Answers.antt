@@ -7,9 +7,7 @@ use Rattle.fresh.proofs.const_new.Goals as goal
 
 pub returns-then-is_bad_start : goal.returns-then-is_bad_start
 returns-then-is_bad_start c =
-    let a = c.args in
-    let asked : Start = record { fairness = a.fairness; stock = a.stock; tasks = a.count; clocks = a.starts.now; maker = none } in
-    refused_so asked _ (alone _ _ c.is_bad_start.ensures) _ _ c.if-is_bad_start.true c.refuse.ensures
+    refused_so _ _ (alone _ _ c.is_bad_start.ensures) _ _ c.if-is_bad_start.true c.refuse.ensures
 
 pub begin_unmade-requires : goal.begin_unmade-requires
 begin_unmade-requires c =
@@ -19,6 +17,4 @@ begin_unmade-requires c =
 
 pub returns : goal.returns
 returns c =
-    let a = c.args in
-    let asked : Start = record { fairness = a.fairness; stock = a.stock; tasks = a.count; clocks = a.starts.now; maker = none } in
-    accepted_so asked _ (alone _ _ c.is_bad_start.ensures) _ _ c.if-is_bad_start.false c.begin_unmade.ensures
+    accepted_so _ _ (alone _ _ c.is_bad_start.ensures) _ _ c.if-is_bad_start.false c.begin_unmade.ensures

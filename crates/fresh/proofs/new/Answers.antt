@@ -8,9 +8,7 @@ use Rattle.fresh.proofs.new.Goals as goal
 
 pub returns-then-is_refused : goal.returns-then-is_refused
 returns-then-is_refused c =
-    let a = c.args in
-    let asked : Start = record { fairness = a.fairness; stock = a.stock; tasks = a.count; clocks = a.starts.now; maker = some a.maker } in
-    refused_so asked _ c.is_refused.ensures _ _ c.if-is_refused.true c.refuse.ensures
+    refused_so _ _ c.is_refused.ensures _ _ c.if-is_refused.true c.refuse.ensures
 
 pub begin_made-requires : goal.begin_made-requires
 begin_made-requires c =
@@ -20,6 +18,4 @@ begin_made-requires c =
 
 pub returns : goal.returns
 returns c =
-    let a = c.args in
-    let asked : Start = record { fairness = a.fairness; stock = a.stock; tasks = a.count; clocks = a.starts.now; maker = some a.maker } in
-    accepted_so asked _ c.is_refused.ensures _ _ c.if-is_refused.false c.begin_made.ensures
+    accepted_so _ _ c.is_refused.ensures _ _ c.if-is_refused.false c.begin_made.ensures

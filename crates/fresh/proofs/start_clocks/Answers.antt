@@ -1,4 +1,3 @@
--- A row a turn.
 use borrow.Author.Rules.{rules}
 use Rattle.fresh.proofs.Rows.{row-there, row_fits, makes_none, makes_more, makes_all}
 use Rattle.fresh.proofs.start_clocks.Goals as goal

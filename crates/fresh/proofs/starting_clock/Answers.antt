@@ -1,4 +1,3 @@
--- An entry a turn, over the empty clock.
 use mathlib.Core.Path.{◌≡◌}
 use native.Mathlib.Omega.{arith}
 use borrow.Author.Rules.{rules}

@@ -1,4 +1,3 @@
--- `printing::print_rest`: the takers up to the place reached are written.
 use borrow.Author.Rules.{rules}
 use Rattle.printing.proofs.Takers.{rest_starts, room_next, rest_goes_on, rest-ends}
 use Rattle.printing.proofs.print_rest.Goals as goal

@@ -1,4 +1,3 @@
--- `reading::read_clocks`: the numbers up to the place reached are read, and those behind it are left.
 use borrow.Author.Rules.{rules}
 use Rattle.reading.proofs.Numbers.{along_none, less_left, count_fits, along_bad, along_last, along_more}
 use Rattle.reading.proofs.read_clocks.Goals as goal

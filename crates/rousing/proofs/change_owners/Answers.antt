@@ -1,4 +1,3 @@
--- A request a turn.
 use borrow.Author.Rules.{rules}
 use Rattle.rules.proofs.Places.{unmap}
 use Rattle.rousing.proofs.Turns.{along_start, along_on, along_done}

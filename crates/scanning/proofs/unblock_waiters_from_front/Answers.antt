@@ -1,4 +1,3 @@
--- One law for each need. Four of them are past what `search` looks into, and have their facts named.
 use borrow.Author.Rules.{rules}
 use Rattle.scanning.proofs.Scanning.{scanning, turn-within, scan_over, standing, grants-room, fitting, after-leaves, shorter_leaves, after-fits, shorter_fits, after-passes, scan-ends}
 use Rattle.scanning.proofs.unblock_waiters_from_front.Goals as goal

@@ -1,4 +1,3 @@
--- `spawning::spawn_children`: a child at a time.
 use borrow.Author.Rules.{rules}
 use Rattle.spawning.proofs.Spawns.{nobody_yet, all_spawned}
 use Rattle.spawning.proofs.spawn_children.Goals as goal

@@ -1,7 +1,6 @@
 -- Planned, checked, and then refused or taken.
 use mathlib.Core.Path.{ap}
 use mathlib.Core.Bool.{not}
-use Rattle.state.specs.View.{words}
 use Rattle.stepping.proofs.Stepping.{checked_whole, refused_steps, no_refusal, taken_steps}
 use Rattle.stepping.proofs.step_on.Goals as goal
 
@@ -16,16 +15,16 @@ check-checked-requires c =
 
 pub returns-then-not-is_accepted : goal.returns-then-not-is_accepted
 returns-then-not-is_accepted c =
-    refused_steps c.args.s (words c.args.slots.now c.args.tasks.now c.args.sizes.now c.args.rows.now c.args.last.now c.args.makers.now c.args.clocks.now) c.args.grants.now c.requires c.args.a c.check-checked.result (checked_whole c.args.s (words c.args.slots.now c.args.tasks.now c.args.sizes.now c.args.rows.now c.args.last.now c.args.makers.now c.args.clocks.now) c.args.grants.now c.requires c.args.a c.check-checked.result c.plan_act-plan.result c.check-checked.ensures (c.plan_act-plan.ensures c.args.tasks.now)) c.is_accepted.result c.is_accepted.ensures c.refuse.result (ap not c.if-not-is_accepted.true) c.refuse.ensures
+    refused_steps c.args.s _ c.args.grants.now c.requires c.args.a c.check-checked.result (checked_whole c.args.s _ c.args.grants.now c.requires c.args.a c.check-checked.result c.plan_act-plan.result c.check-checked.ensures (c.plan_act-plan.ensures c.args.tasks.now)) c.is_accepted.result c.is_accepted.ensures c.refuse.result (ap not c.if-not-is_accepted.true) c.refuse.ensures
 
 pub accept-requires : goal.accept-requires
 accept-requires c =
     record {
       fit = c.requires;
       planned = c.plan_act-plan.ensures c.args.tasks.now;
-      unrefused = no_refusal c.args.s (words c.args.slots.now c.args.tasks.now c.args.sizes.now c.args.rows.now c.args.last.now c.args.makers.now c.args.clocks.now) c.args.grants.now c.requires c.args.a c.check-checked.result (checked_whole c.args.s (words c.args.slots.now c.args.tasks.now c.args.sizes.now c.args.rows.now c.args.last.now c.args.makers.now c.args.clocks.now) c.args.grants.now c.requires c.args.a c.check-checked.result c.plan_act-plan.result c.check-checked.ensures (c.plan_act-plan.ensures c.args.tasks.now)) c.is_accepted.result c.is_accepted.ensures (ap not c.if-not-is_accepted.false);
+      unrefused = no_refusal c.args.s _ c.args.grants.now c.requires c.args.a c.check-checked.result (checked_whole c.args.s _ c.args.grants.now c.requires c.args.a c.check-checked.result c.plan_act-plan.result c.check-checked.ensures (c.plan_act-plan.ensures c.args.tasks.now)) c.is_accepted.result c.is_accepted.ensures (ap not c.if-not-is_accepted.false);
     }
 
 pub returns : goal.returns
 returns c =
-    taken_steps c.args.s (words c.args.slots.now c.args.tasks.now c.args.sizes.now c.args.rows.now c.args.last.now c.args.makers.now c.args.clocks.now) c.args.grants.now c.requires c.args.a c.check-checked.result (checked_whole c.args.s (words c.args.slots.now c.args.tasks.now c.args.sizes.now c.args.rows.now c.args.last.now c.args.makers.now c.args.clocks.now) c.args.grants.now c.requires c.args.a c.check-checked.result c.plan_act-plan.result c.check-checked.ensures (c.plan_act-plan.ensures c.args.tasks.now)) c.is_accepted.result c.is_accepted.ensures c.accept.result _ _ (ap not c.if-not-is_accepted.false) c.accept.ensures
+    taken_steps c.args.s _ c.args.grants.now c.requires c.args.a c.check-checked.result (checked_whole c.args.s _ c.args.grants.now c.requires c.args.a c.check-checked.result c.plan_act-plan.result c.check-checked.ensures (c.plan_act-plan.ensures c.args.tasks.now)) c.is_accepted.result c.is_accepted.ensures c.accept.result _ _ (ap not c.if-not-is_accepted.false) c.accept.ensures

@@ -1,4 +1,3 @@
--- `text::print_number`: the digits of a tenth, which is less, and the last digit behind them.
 use native.Mathlib.Omega.{arith}
 use borrow.Author.Rules.{rules}
 use Rattle.text.proofs.Printing.{room_one, print_one, room_tenth, room_more, print_more}

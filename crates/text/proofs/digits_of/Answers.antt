@@ -1,4 +1,3 @@
--- `text::digits_of`: the digits from the place reached on, behind those read, say what all of them say.
 use mathlib.Core.Path.{refl}
 use borrow.Author.Rules.{rules}
 use Rattle.text.proofs.Numbers.{stop_low, stop_high, stop_large, one_more_lem, all_read}

@@ -1,4 +1,3 @@
--- `text::find`: from the place reached on, the first part ends where it did from the start.
 use mathlib.Core.Path.{refl}
 use borrow.Author.Rules.{rules}
 use Rattle.text.proofs.Scanning.{look_on, found_here, found_none}

@@ -1,4 +1,3 @@
--- `text::put`: the buffer has the first i bytes of w.
 use native.Mathlib.Nat.{add-zero}
 use mathlib.Core.Path.{refl}
 use borrow.Author.Rules.{rules}

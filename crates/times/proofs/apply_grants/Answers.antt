@@ -1,4 +1,3 @@
--- Grants are applied, one a turn.
 use native.Mathlib.Omega.{arith}
 use borrow.Author.Rules.{rules}
 use Rattle.times.proofs.Turning.{turn-first, turn-next, turn_last}

@@ -1,4 +1,3 @@
--- `trace::run_lines`: the lines up to the place reached are printed, and those behind it are left.
 use native.Mathlib.Omega.{arith}
 use borrow.Author.Rules.{rules}
 use Rattle.trace.proofs.Turns.{onward_none, onward_length, line-room, onward_more, onward_ends}

@@ -1,4 +1,3 @@
--- The lowest from here on, and those passed, stay the lowest of all.
 use borrow.Author.Rules.{rules}
 use Rattle.words.proofs.Lowest.{free_here, used_here, none_free}
 use Rattle.words.proofs.lowest_free.Goals as goal

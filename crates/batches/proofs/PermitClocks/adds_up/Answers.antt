@@ -1,4 +1,3 @@
--- The batches are added up, one a turn; an empty one ends it.
 use borrow.Author.Rules.{rules}
 use Rattle.batches.proofs.Summing.{wider, sums_none, sum_fits, sums_more, finds_empty, sums_whole}
 use Rattle.batches.proofs.PermitClocks.adds_up.Goals as goal

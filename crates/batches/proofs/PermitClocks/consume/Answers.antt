@@ -1,4 +1,3 @@
--- Front batches are eaten, one a turn.
 use borrow.Author.Rules.{rules}
 use Rattle.batches.specs.View.{ring_of}
 use Rattle.batches.proofs.Consuming.{turn_part, turn-whole, nothing_left, no_batch}

@@ -1,4 +1,3 @@
--- `names::all_zero`: the bytes from the place reached on are zeros where those from the start are.
 use mathlib.Core.Path.{refl}
 use Rattle.bundle.proofs.Naming.{zero_here, other_here, zeros_all}
 use borrow.Author.Rules.{rules}

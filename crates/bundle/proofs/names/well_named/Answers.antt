@@ -1,4 +1,3 @@
--- `names::well_named`: the names that are left are well made where all are.
 use native.Mathlib.Nat.{sub-zero}
 use Rattle.bundle.proofs.Naming.{bad-name, good_name, good_names}
 use borrow.Author.Rules.{rules}

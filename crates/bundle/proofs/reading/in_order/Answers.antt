@@ -1,4 +1,3 @@
--- `reading::in_order`: the rows that are left are in order from where the bodies so far end, where all are.
 use native.Mathlib.Nat.{sub-zero}
 use Rattle.bundle.proofs.Rows.{body_elsewhere, body-there, bodies-end}
 use borrow.Author.Rules.{rules}

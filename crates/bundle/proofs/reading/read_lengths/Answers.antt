@@ -1,4 +1,3 @@
--- `reading::read_lengths`: the lengths that are there, with those of the rows that are left, are those of all rows.
 use native.Mathlib.Nat.{sub-zero}
 use mathlib.Core.Path.{refl}
 use Rattle.bundle.proofs.Rows.{size_here, sizes_all}

@@ -1,4 +1,3 @@
--- `reading::sum`: what is added so far with the lengths that are left is the whole sum.
 use native.Mathlib.Nat.{sub-zero, zero-add}
 use Rattle.bundle.proofs.Bodies.{sum-next, sum_all}
 use native.Mathlib.Omega.{arith}

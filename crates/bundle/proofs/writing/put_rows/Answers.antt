@@ -1,4 +1,3 @@
--- `bundle::put_rows`: whoever puts the rows that are left has put all.
 use borrow.Author.Rules.{rules}
 use Rattle.bundle.proofs.Putting.{rows_start, next_fits, name-length, rows_go_on, rows_end}
 use Rattle.bundle.proofs.writing.put_rows.Goals as goal

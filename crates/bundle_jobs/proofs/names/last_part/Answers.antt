@@ -1,4 +1,3 @@
--- `names::last_part`: the last part of what is left is that of the path.
 use borrow.Author.Rules.{rules}
 use Rattle.bundle_jobs.proofs.LastParts.{part_on, part_last}
 use Rattle.bundle_jobs.proofs.names.last_part.Goals as goal

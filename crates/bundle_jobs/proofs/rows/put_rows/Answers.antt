@@ -1,4 +1,3 @@
--- `rows::put_rows`: the lines of i rows are written, and those behind them are left.
 use native.Mathlib.Omega.{arith}
 use borrow.Author.Rules.{rules}
 use Rattle.bundle_jobs.proofs.Turns.{turn_none, turn-length, turn_end, row_room_lem, row_more, rows_end}

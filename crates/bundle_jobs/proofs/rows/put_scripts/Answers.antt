@@ -1,4 +1,3 @@
--- `rows::put_scripts`: i scripts are run, and those behind them are left.
 use native.Mathlib.Omega.{arith}
 use borrow.Author.Rules.{rules}
 use Rattle.bundle_jobs.proofs.Turns.{turn_none, turn_end, script_fits, script_more, scripts_length, scripts_end}

@@ -1,4 +1,3 @@
--- A join, an entry a turn: after i turns the first i entries are those of the join, the others as in the first clock.
 use mathlib.Core.Path.{refl}
 use borrow.Author.Rules.{rules}
 use Rattle.clock.proofs.Joining.{joins_more, joins_whole}

@@ -1,4 +1,3 @@
--- The place so far and where the slot stands in the rest make where it stands in the whole.
 use mathlib.Core.Path.{◌≡◌, sym, ◌∙◌}
 use native.Mathlib.Omega.{arith}
 use borrow.Author.Rules.{rules}
