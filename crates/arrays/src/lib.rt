@@ -3,8 +3,7 @@
 // writes our side of the comparison is the shorter for it.
 #![tactic(auto)]
 
-ghost use Rattle.std.specs.Prelude.{◌≡◌};
-ghost use Rattle.std.proofs.Math.Option.{none, some};
+ghost use Rattle.std.specs.Prelude.{◌≡◌, None, Some};
 ghost use Rattle.rules.specs.Runs.{start};
 ghost use Rattle.rules.specs.Steps.{◌does◌};
 ghost use Rattle.fresh.specs.Starting.{Gives};
@@ -110,7 +109,7 @@ pub fn new(
     starts: &[u32],
     maker: TaskId,
 ) -> StartedArrays
-    ensures { Gives result.started (words_in result.arrays) (start (record { fairness = fairness; stock = stock; tasks = count; clocks = starts.now; maker = some maker })) }
+    ensures { Gives result.started (words_in result.arrays) (start (record { fairness = fairness; stock = stock; tasks = count; clocks = starts.now; maker = Some maker })) }
 {
     let mut slots = [0u32; 320];
     let mut tasks = [0u32; 32];
@@ -148,7 +147,7 @@ pub fn new(
 
 // A fresh state that no task makes.
 pub fn const_new(fairness: Fairness, stock: u32, count: u32, starts: &[u32]) -> StartedArrays
-    ensures { Gives result.started (words_in result.arrays) (start (record { fairness = fairness; stock = stock; tasks = count; clocks = starts.now; maker = none })) }
+    ensures { Gives result.started (words_in result.arrays) (start (record { fairness = fairness; stock = stock; tasks = count; clocks = starts.now; maker = None })) }
 {
     let mut slots = [0u32; 320];
     let mut tasks = [0u32; 32];

@@ -1,9 +1,9 @@
 -- When batches are broken, by what the ring and the sizes hold; and what batches that are not broken give to a caller.
+use Rattle.std.specs.Prelude.{Option}
 use Prim.Native.Nat.{ℕ, ◌≤◌, ◌<◌}
 use mathlib.Core.Path.{◌≡◌, subst}
 use mathlib.Core.Bool.{Bool, true, false, not, ◌||◌, not-not}
 use mathlib.Core.List.{List}
-use mathlib.Core.Option.{Option}
 use borrow.Author.Tests.{lt-ltb, le-ltb, le-leb, lt-leb, leb-false, ltb-false, eqb-true, not-false}
 use lib.Dec.{ltb, eqb}
 use lib.ListN.{length}

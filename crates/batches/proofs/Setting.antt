@@ -1,9 +1,9 @@
 -- Batches that are set up: what stands, room for one more, and the ring after a meal.
+use Rattle.std.specs.Prelude.{Option, Some}
 use Prim.Native.Nat.{ℕ, ◌<◌}
 use mathlib.Core.Path.{◌≡◌, refl, sym, ◌∙◌}
 use mathlib.Core.Bool.{Bool, true, false}
 use mathlib.Core.List.{List, [], ◌∷◌, ◌++◌}
-use mathlib.Core.Option.{Option, some}
 use lib.Dec.{leb}
 use lib.ListN.{length}
 use Rattle.rules.specs.Sizes.{batch_count, width}
@@ -31,7 +31,7 @@ module _ (b : Batches) (k : ℕ) (sizes rows : List ℕ) where
 
 module _ (b : Batches) (sizes rows : List ℕ) where
   -- what stands, as contracts above have it
-  pub stood-view : (bs : List Batch) → Stood b sizes rows bs → stands_in b sizes rows ≡ some bs
+  pub stood-view : (bs : List Batch) → Stood b sizes rows bs → stands_in b sizes rows ≡ Some bs
   unfolding set_up_if
   stood-view bs s = rw (s.ready, s.holds.view)
 

@@ -1,6 +1,5 @@
 -- What the ring by value and the lent arrays stand for in the rules, and what contracts say of a result.
-use Rattle.std.specs.Prelude.{ℕ, zero, suc, ◌*◌, ◌%◌, ◌≤◌, ◌<◌, ◌≡◌, Bool, true, false, List, [], ◌∷◌, length, get_or}
-use Rattle.std.proofs.Math.Option.{Option, none, some}
+use Rattle.std.specs.Prelude.{ℕ, zero, suc, ◌*◌, ◌%◌, ◌≤◌, ◌<◌, ◌≡◌, Bool, true, false, List, [], ◌∷◌, length, get_or, Option, None, Some}
 use Rattle.rules.specs.Sizes.{batch_count, width}
 use Rattle.rules.specs.State.{Batch}
 use Rattle.rules.specs.Taking.{Meal}
@@ -34,8 +33,8 @@ batches_of b = ring (batch_at width b.sizes b.rows) batch_count b.head b.count
 
 -- Not set up, the ring is no part of the state.
 unfoldable pub set_up_if : Bool → List Batch → Option (List Batch)
-set_up_if true bs = some bs
-set_up_if false bs = none
+set_up_if true bs = Some bs
+set_up_if false bs = None
 
 abbrev pub stands_in : Batches → List ℕ → List ℕ → Option (List Batch)
 stands_in b sizes rows = set_up_if b.ready (batches_of (ring_of b.permit_clocks sizes rows))

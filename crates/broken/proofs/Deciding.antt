@@ -1,15 +1,14 @@
 -- The other parts of row 14: each answer, from the tests that led to it.
+use Rattle.std.specs.Prelude.{Option, None, Some, is_some}
 use Prim.Native.Nat.{ℕ, zero, suc, ◌≤◌, ◌<◌}
 use native.Mathlib.Omega.{arith}
 use mathlib.Core.Path.{◌≡◌, refl, sym, ap, ◌∙◌}
 use mathlib.Core.Bool.{Bool, true, false, cond, not, ◌&&◌, ◌||◌}
 use mathlib.Core.List.{List}
-use mathlib.Core.Option.{Option, none, some}
 use borrow.Author.Tests.{lt-ltb, le-ltb, le-leb, lt-leb, not-true, not-false}
 use lib.Dec.{leb, ltb, eqb}
 use lib.ListN.{length, get_or, replicate}
 use Rattle.rules.specs.Sizes.{slot_count}
-use Rattle.rules.specs.State.{is_some}
 use Rattle.rules.specs.Broken.{any_of, reserved_slots}
 use Rattle.splitting.specs.Plain.{Request as RequestRule}
 use Rattle.splitting.specs.Broken.{cannot_wait}
@@ -69,14 +68,14 @@ module _ (n : ℕ) (rs : List (Option RequestRule)) (v : Reservation) where
     pub reserved-beyond : 32 ≤ v.slot.0 → true ≡ any_of (misreserved n rs) (reserved_slots (reservation_of v))
     reserved-beyond h = sym (one ∙ rw (le-leb 32 v.slot.0 h))
 
-    pub reserved_judged : (b : Bool) (r : Request) → v.slot.0 < 32 → Stands r (get_or rs v.slot.0 none) → b ≡ unable n r
+    pub reserved_judged : (b : Bool) (r : Request) → v.slot.0 < 32 → Stands r (get_or rs v.slot.0 None) → b ≡ unable n r
         → b ≡ any_of (misreserved n rs) (reserved_slots (reservation_of v))
     reserved_judged b r h s e = e ∙ sym (one ∙ rw (lt-leb 32 v.slot.0 h, some_used, ← s.view) (or-false _))
       where
-        some_used : is_some (get_or rs v.slot.0 none) ≡ r.used
+        some_used : is_some (get_or rs v.slot.0 None) ≡ r.used
         some_used = rw (← s.used) (go r.used)
           where
-            go : (b : Bool) → is_some (cond b (some (request_of r)) none) ≡ b
+            go : (b : Bool) → is_some (cond b (Some (request_of r)) None) ≡ b
             go true = refl
             go false = refl
 

@@ -1,4 +1,5 @@
 -- The slots weigh together as much as the queue is long exactly where none of them is wrong, and the queue names none that is free and none twice.
+use Rattle.std.specs.Prelude.{Option, None, is_some}
 use Prim.Native.Nat.{ℕ, zero, suc, ◌+◌, ◌*◌, ◌≤◌, ◌<◌}
 use native.Mathlib.Nat.{add-zero}
 use native.Mathlib.Decide.{dec_lt}
@@ -6,13 +7,11 @@ use native.Mathlib.Omega.{arith}
 use mathlib.Core.Path.{◌≡◌, refl, sym, ap, ◌∙◌}
 use mathlib.Core.Bool.{Bool, true, false, cond, not, ◌&&◌, ◌||◌}
 use mathlib.Core.List.{List}
-use mathlib.Core.Option.{Option, none}
 use borrow.Author.Tests.{eqb-true, eqb-false, ne_eqb, lt-leb}
 use lib.Dec.{eqb}
 use lib.ListN.{length, get_or}
 use Rattle.rules.specs.declared.Slot.{Slot}
 use Rattle.rules.specs.Sizes.{slot_count}
-use Rattle.rules.specs.State.{is_some}
 use Rattle.rules.specs.Broken.{any_of, member, slots_from, every_slot}
 use Rattle.rules.proofs.Bools.{by_test, clash, neither}
 use Rattle.splitting.specs.Plain.{Request as RequestRule}
@@ -26,7 +25,7 @@ use Rattle.broken.proofs.Counting.{used_in, counted_all}
 
 module _ (n : ℕ) (fair : Bool) (w : List ℕ) (q : List Slot) (seen : List Bool) (m : Marks seen q) where
   abbrev used : ℕ → Bool
-  used k = is_some (get_or (slots_of w) k none)
+  used k = is_some (get_or (slots_of w) k None)
 
   abbrev wrong : ℕ → Bool
   wrong k = is_wrong n fair w q (record { 0 = k })

@@ -1,16 +1,16 @@
 -- What the test of all but the batches comes to, once the counts are within their arrays: its parts, in the order in which the code looks.
+use Rattle.std.specs.Prelude.{Option, None, is_some}
 use Prim.Native.Nat.{ℕ, ◌≤◌, ◌<◌}
 use native.Mathlib.Omega.{arith}
 use mathlib.Core.Path.{◌≡◌, refl, sym, ap, ◌∙◌}
 use mathlib.Core.Bool.{Bool, true, false, not, ◌&&◌, ◌||◌}
 use mathlib.Core.List.{List, [], ◌∷◌}
-use mathlib.Core.Option.{Option, none}
 use borrow.Author.Tests.{lt-ltb, le-ltb, leb-true}
 use lib.Dec.{ltb}
 use lib.ListN.{length, get_or}
 use Rattle.rules.specs.declared.Slot.{Slot}
 use Rattle.rules.specs.Sizes.{max_tasks, slot_count}
-use Rattle.rules.specs.State.{is_strict, is_some}
+use Rattle.rules.specs.State.{is_strict}
 use Rattle.rules.specs.Broken.{any_of, member, twice, every_slot, reserved_slots, is_beyond, non_empty}
 use Rattle.splitting.specs.Plain.{Request as RequestRule}
 use Rattle.splitting.specs.Broken.{misfits, broken_plain}
@@ -94,7 +94,7 @@ module _ (h : Head) (ss ts : List ℕ) where
     long = waiters-length h.waiters places l
 
     abbrev misfit : ℕ → Slot → Bool
-    misfit k x = misfits k (is_strict h.fairness) (member x q) (get_or (slots_of ss) x.0 none)
+    misfit k x = misfits k (is_strict h.fairness) (member x q) (get_or (slots_of ss) x.0 None)
 
     abbrev stray : Slot → Bool
     stray x = not (row_stands (row request_words ss x.0))

@@ -1,10 +1,7 @@
 -- Document 01's row 14 for what is handed in: arrays of another length, counts past their arrays, words that stand for nothing, or a broken state.
-use Rattle.std.specs.Prelude.{ℕ, ◌*◌, ◌≡◌, Bool, false, not, ◌||◌, List, ltb, eqb, length, get_or}
-use Rattle.std.proofs.Math.Option
-use Rattle.std.proofs.Math.Option.{Option, none}
+use Rattle.std.specs.Prelude.{ℕ, ◌*◌, ◌≡◌, Bool, false, not, ◌||◌, List, ltb, eqb, length, get_or, Option, None, is_some, unwrap_or}
 use Rattle.rules.specs.declared.Slot.{Slot}
 use Rattle.rules.specs.Sizes.{max_tasks, slot_count, batch_count, width}
-use Rattle.rules.specs.State.{is_some}
 use Rattle.rules.specs.Broken.{any_of, every_slot, is_beyond, broken}
 use Rattle.splitting.specs.Plain.{Request, no_request}
 use Rattle.splitting.specs.Broken.{cannot_wait, broken_plain}
@@ -60,8 +57,8 @@ pub record Judged (s : BatchSemaphore) (w : Words) (gs : List ℕ) (b : Bool) : 
 -- has the reservation, and is beyond the slots, free, queued, not reserving or unable to wait
 abbrev pub misreserved : ℕ → List (Option Request) → Slot → Bool
 misreserved n rs x =
-    let o = get_or rs x.0 none in
-    let r = Option.get_or o no_request in
+    let o = get_or rs x.0 None in
+    let r = unwrap_or o no_request in
     is_beyond x || (not (is_some o) || r.queued || not r.ask.reserving || cannot_wait n r)
 
 -- all but the lengths and the batches

@@ -1,7 +1,6 @@
 -- The key invariants (2) to (6) that the source's comment on `BatchSemaphoreState` lists (batch_semaphore.rs, lines 266 to 290), in the
 -- rules' words. (1) is no part of row 14: it is the promise `NobodyStranded`, about every run from a fresh state.
-use Rattle.std.specs.Prelude.{◌≡◌, true, false, []}
-use Rattle.std.proofs.Math.Option.{none, some}
+use Rattle.std.specs.Prelude.{◌≡◌, true, false, [], None, Some}
 use Rattle.rules.specs.declared.Slot.{Slot}
 use Rattle.rules.specs.State.{State, strict, request_at}
 use Rattle.rules.specs.Broken.{member}
@@ -23,6 +22,6 @@ pub record KeyInvariants (s : State) : Type 0 where
   -- (4) closed ==> waiters.is_empty()
   pub closed-empty : s.closed ≡ true → s.queue ≡ []
   -- (5) if `reservation` is `Some(R)`, then the semaphore is unfair, and !R.is_queued && !R.has_permits
-  pub reserved : (x : Slot) → s.reservation ≡ some x → HasReservation s x
+  pub reserved : (x : Slot) → s.reservation ≡ Some x → HasReservation s x
   -- (6) closed ==> reservation.is_none()
-  pub closed_unreserved : s.closed ≡ true → s.reservation ≡ none
+  pub closed_unreserved : s.closed ≡ true → s.reservation ≡ None

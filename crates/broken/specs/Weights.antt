@@ -1,12 +1,10 @@
 -- Row 14 for the queue and the slots, as the code decides it. A free slot weighs nothing; a request that is as it must be, one where the queue
 -- names it and else nothing; all else weighs more than a queue can be long. So all is well exactly where the slots together weigh as much as
 -- the queue is long: a slot that it names twice, a free one and one beyond the slots are missing.
-use Rattle.std.specs.Prelude.{ℕ, zero, suc, ◌+◌, ◌*◌, ◌≤◌, ◌<◌, ◌≡◌, Bool, false, cond, not, ◌&&◌, ◌||◌, List, leb, ltb, eqb, get_or}
-use Rattle.std.proofs.Math.Option.{none}
+use Rattle.std.specs.Prelude.{ℕ, zero, suc, ◌+◌, ◌*◌, ◌≤◌, ◌<◌, ◌≡◌, Bool, false, cond, not, ◌&&◌, ◌||◌, List, leb, ltb, eqb, get_or, None, is_some}
 use Rattle.rules.specs.declared.Slot.{Slot}
 use Rattle.rules.specs.Sizes.{slot_count}
 use Rattle.rules.specs.Refusals.{bad_reserving}
-use Rattle.rules.specs.State.{is_some}
 use Rattle.rules.specs.Broken.{any_of, member, twice, every_slot}
 use Rattle.splitting.specs.Broken.{misfits}
 use Rattle.tables.specs.Table.{row}
@@ -63,10 +61,10 @@ heaviest = 141_733_920_735
 
 -- words that stand for nothing, or a request that is not as it must be
 abbrev pub is_wrong : ℕ → Bool → List ℕ → List Slot → Slot → Bool
-is_wrong n fair w q x = not (row_stands (row request_words w x.0)) || misfits n fair (member x q) (get_or (slots_of w) x.0 none)
+is_wrong n fair w q x = not (row_stands (row request_words w x.0)) || misfits n fair (member x q) (get_or (slots_of w) x.0 None)
 
 abbrev pub is_free_in : List ℕ → Slot → Bool
-is_free_in w x = not (is_some (get_or (slots_of w) x.0 none))
+is_free_in w x = not (is_some (get_or (slots_of w) x.0 None))
 
 -- one of the slots is so, or the queue names a free one or one twice
 unfoldable pub broken_slots : ℕ → Bool → List Slot → List ℕ → Bool

@@ -1,10 +1,10 @@
 -- What the first ground tells of some bytes is what the reader answers for the bundle.
+use Rattle.std.specs.Prelude.{Option, None, Some}
 use Prim.Native.Nat.{ℕ, ◌+◌, ◌≤◌, ◌<◌}
 use native.Mathlib.Nat.{add-zero}
 use native.Mathlib.Omega.{arith}
 use mathlib.Core.Path.{◌≡◌, refl, sym, ◌∙◌}
 use mathlib.Core.List.{List, ◌++◌}
-use mathlib.Core.Option.{Option, none, some}
 use lib.ListN.{length}
 use Rattle.bundle_rules.specs.declared.Refusal.{Refusal}
 use Rattle.bundle_rules.specs.declared.Refusal.TheVariants.{CutShort}
@@ -21,8 +21,8 @@ use Rattle.bundle.specs.Reads.{Tells, Reads, ReadsCounted, Judged, Judges}
 
 tells : (s : List ℕ) (r : BundleRead) (g : Option Refusal) → ground_of s (length s) ≡ g → Judged r s g → Tells r s (or_refused g (entries_in s))
 unfolding read_as
-tells s r (some g) e j = j
-tells s r none e j =
+tells s r (Some g) e j = j
+tells s r None e j =
     let a : Accepted s (entries_in s) = accepted s (entries_in s) (rw e) in (
       j.0,
       record {
@@ -43,10 +43,10 @@ reads_all s r b j =
 
 -- Some are only counted: the whole is too long, so that a ground holds.
 
-refused_all : (s t : List ℕ) (r : BundleRead) (g : Option Refusal) → ground_of t (length t) ≡ g → (g ≡ none → ⊥) → Judged r s g → Reads t r
+refused_all : (s t : List ℕ) (r : BundleRead) (g : Option Refusal) → ground_of t (length t) ≡ g → (g ≡ None → ⊥) → Judged r s g → Reads t r
 unfolding read_as
-refused_all s t r none e f j = absurd (f refl)
-refused_all s t r (some g) e f j =
+refused_all s t r None e f j = absurd (f refl)
+refused_all s t r (Some g) e f j =
     record {
       tells = rw e j;
       bundle = λ es h. let z : ◌≡◌ {A = ℕ} 0 1 = cc (rw e at h) in absurd (omega arith);

@@ -1,10 +1,10 @@
 -- What the writer leaves: the scripts that it was lent, bundled.
+use Rattle.std.specs.Prelude.{Some}
 use Prim.Native.Nat.{ℕ}
 use native.Mathlib.Omega.{arith}
 use mathlib.Core.Path.{◌≡◌, refl, sym, ap, ◌∙◌}
 use mathlib.Core.Bool.{true}
 use mathlib.Core.List.{List, ◌++◌}
-use mathlib.Core.Option.{some}
 use lib.ListN.{length, drop}
 use lib.Seq.{length-take-le}
 use Rattle.text.specs.Writing.{Appended}
@@ -62,7 +62,7 @@ module _ (c : Contents) (bs old : List ℕ) (v : Verdict) (a : Arrays c) (told :
   pub writes_not : (g : Refusal) → v ≡ Refused g → Writes c bs old old (Not g)
   unfolding write_as
   writes_not g e =
-      let k : ground_to_write c bs (length old) ≡ some g = sym told ∙ ap ground_told e in
+      let k : ground_to_write c bs (length old) ≡ Some g = sym told ∙ ap ground_told e in
       record { leaves = rw k (refl, refl); arrays = a }
 
   pub good_writable : v ≡ Good → Writable c bs (length old)

@@ -1,11 +1,11 @@
 -- The writer's grounds, and what is known where none holds.
+use Rattle.std.specs.Prelude.{Option, None, Some}
 use Prim.Native.Nat.{ℕ, ◌+◌, ◌-◌, ◌≤◌, ◌<◌}
 use native.Mathlib.Omega.{arith}
 use mathlib.Core.Path.{◌≡◌, refl, sym, ◌∙◌}
 use mathlib.Core.Bool.{Bool, true, false, cond, not}
 use mathlib.Core.List.{List}
 use mathlib.Core.Logic.{◌⊎◌, inl, inr, ⊎_elim, ◌↔◌}
-use mathlib.Core.Option.{Option, none, some}
 use borrow.Author.Tests.{ltb-false, leb-true, eqb-true, not-true, not-false, lt-ltb, le-ltb, le-leb, lt-leb, eq-eqb, ne_eqb}
 use lib.Dec.{eqb, leb}
 use lib.ListN.{length, take}
@@ -26,39 +26,39 @@ pub record Writable (c : Contents) (bs : List ℕ) (room : ℕ) : Type 0 where
   pub short : whole_length c bs ≤ longest
   pub roomy : whole_length c bs ≤ room
 
-cond_none : (b : Bool) (g : Refusal) (o : Option Refusal) → cond b (some g) o ≡ none → (b ≡ false) × (o ≡ none)
+cond_none : (b : Bool) (g : Refusal) (o : Option Refusal) → cond b (Some g) o ≡ None → (b ≡ false) × (o ≡ None)
 cond_none true g o e = let z : ◌≡◌ {A = ℕ} 0 1 = cc in absurd (omega arith)
 cond_none false g o e = (refl, e)
 
-cond_some : (b : Bool) (g h : Refusal) (o : Option Refusal) → cond b (some g) o ≡ some h → ((b ≡ true) × (g ≡ h)) ⊎ ((b ≡ false) × (o ≡ some h))
+cond_some : (b : Bool) (g h : Refusal) (o : Option Refusal) → cond b (Some g) o ≡ Some h → ((b ≡ true) × (g ≡ h)) ⊎ ((b ≡ false) × (o ≡ Some h))
 cond_some true g h o e = inl (refl, cc)
 cond_some false g h o e = inr (refl, e)
 
-refused-ground : (o : Option Refusal) (es : List Entry) (g : Refusal) → or_refused o es ≡ refused g → o ≡ some g
-refused-ground none es g e = let z : ◌≡◌ {A = ℕ} 0 1 = cc in absurd (omega arith)
-refused-ground (some h) es g e = cc
+refused-ground : (o : Option Refusal) (es : List Entry) (g : Refusal) → or_refused o es ≡ refused g → o ≡ Some g
+refused-ground None es g e = let z : ◌≡◌ {A = ℕ} 0 1 = cc in absurd (omega arith)
+refused-ground (Some h) es g e = cc
 
-held-ground : (o : Option Refusal) (es fs : List Entry) → or_refused o es ≡ holds fs → (o ≡ none) × (es ≡ fs)
-held-ground none es fs e = (refl, cc)
-held-ground (some h) es fs e = let z : ◌≡◌ {A = ℕ} 0 1 = cc in absurd (omega arith)
+held-ground : (o : Option Refusal) (es fs : List Entry) → or_refused o es ≡ holds fs → (o ≡ None) × (es ≡ fs)
+held-ground None es fs e = (refl, cc)
+held-ground (Some h) es fs e = let z : ◌≡◌ {A = ℕ} 0 1 = cc in absurd (omega arith)
 
 module _ (c : Contents) (bs : List ℕ) (room : ℕ) where
   abbrev least : Option Refusal
-  least = cond (ground_against CutShort c bs room) (some CutShort) none
+  least = cond (ground_against CutShort c bs room) (Some CutShort) None
 
   abbrev later : Option Refusal
-  later = cond (ground_against BadBodies c bs room) (some BadBodies) least
+  later = cond (ground_against BadBodies c bs room) (Some BadBodies) least
 
   abbrev late : Option Refusal
-  late = cond (ground_against BadName c bs room) (some BadName) later
+  late = cond (ground_against BadName c bs room) (Some BadName) later
 
-  pub none_writable : ground_to_write c bs room ≡ none → Writable c bs room
+  pub none_writable : ground_to_write c bs room ≡ None → Writable c bs room
   unfolding ground_to_write
   none_writable e =
-      let p : (ground_against TooMany c bs room ≡ false) × (late ≡ none) = cond_none (ground_against TooMany c bs room) TooMany late e in
-      let q : (ground_against BadName c bs room ≡ false) × (later ≡ none) = cond_none (ground_against BadName c bs room) BadName later p.1 in
-      let r : (ground_against BadBodies c bs room ≡ false) × (least ≡ none) = cond_none (ground_against BadBodies c bs room) BadBodies least q.1 in
-      let s : (ground_against CutShort c bs room ≡ false) × (◌≡◌ {A = Option Refusal} none none) = cond_none (ground_against CutShort c bs room) CutShort none r.1 in
+      let p : (ground_against TooMany c bs room ≡ false) × (late ≡ None) = cond_none (ground_against TooMany c bs room) TooMany late e in
+      let q : (ground_against BadName c bs room ≡ false) × (later ≡ None) = cond_none (ground_against BadName c bs room) BadName later p.1 in
+      let r : (ground_against BadBodies c bs room ≡ false) × (least ≡ None) = cond_none (ground_against BadBodies c bs room) BadBodies least q.1 in
+      let s : (ground_against CutShort c bs room ≡ false) × (◌≡◌ {A = Option Refusal} None None) = cond_none (ground_against CutShort c bs room) CutShort None r.1 in
       let t : (eqb (sum_of (sizes_in c)) (length bs) ≡ true) × (leb (whole_length c bs) longest ≡ true) = both _ _ (not-false _ r.0) in
       record {
         few = ltb-false most_scripts c.count p.0;
@@ -68,7 +68,7 @@ module _ (c : Contents) (bs : List ℕ) (room : ℕ) where
         roomy = ltb-false room (whole_length c bs) s.0;
       }
 
-  pub writable_none : Writable c bs room → ground_to_write c bs room ≡ none
+  pub writable_none : Writable c bs room → ground_to_write c bs room ≡ None
   unfolding ground_to_write
   writable_none w =
       rw (
@@ -107,7 +107,7 @@ module _ (c : Contents) (bs : List ℕ) (room : ℕ) where
   before-room p q r BadBodies l = r
   before-room p q r CutShort l = absurd (omega arith)
 
-  ground-first : (g : Refusal) → ground_to_write c bs room ≡ some g → FirstAgainst c bs room g
+  ground-first : (g : Refusal) → ground_to_write c bs room ≡ Some g → FirstAgainst c bs room g
   unfolding ground_to_write
   ground-first g e =
       ⊎_elim (λ p. is_first_lem TooMany g p.1 (record { given = p.0; first = before_many }))
@@ -115,12 +115,12 @@ module _ (c : Contents) (bs : List ℕ) (room : ℕ) where
       (λ q. ⊎_elim (λ r. is_first_lem BadBodies g r.1 (record { given = r.0; first = before-bodies p.0 q.0 }))
       (λ r. ⊎_elim (λ t. is_first_lem CutShort g t.1 (record { given = t.0; first = before-room p.0 q.0 r.0 }))
       (λ t. let z : ◌≡◌ {A = ℕ} 0 1 = cc t.1 in absurd (omega arith))
-      (cond_some (ground_against CutShort c bs room) CutShort g none r.1))
+      (cond_some (ground_against CutShort c bs room) CutShort g None r.1))
       (cond_some (ground_against BadBodies c bs room) BadBodies g least q.1))
       (cond_some (ground_against BadName c bs room) BadName g later p.1))
       (cond_some (ground_against TooMany c bs room) TooMany g late e)
 
-  first-ground : (g : Refusal) → FirstAgainst c bs room g → ground_to_write c bs room ≡ some g
+  first-ground : (g : Refusal) → FirstAgainst c bs room g → ground_to_write c bs room ≡ Some g
   unfolding ground_to_write
   first-ground TooMany f = rw f.given
   first-ground BadName f = rw (f.first TooMany (omega arith), f.given)
@@ -141,7 +141,7 @@ module _ (c : Contents) (bs : List ℕ) (room : ℕ) where
   pub writes_writable : (es : List Entry) → write_as c bs room ≡ holds es → Writable c bs room × (entries_of (names_in c) (sizes_in c) bs ≡ es)
   unfolding write_as
   writes_writable es e =
-      let p : (ground_to_write c bs room ≡ none) × (entries_of (names_in c) (sizes_in c) bs ≡ es) = held-ground (ground_to_write c bs room) (entries_of (names_in c) (sizes_in c) bs) es e in
+      let p : (ground_to_write c bs room ≡ None) × (entries_of (names_in c) (sizes_in c) bs ≡ es) = held-ground (ground_to_write c bs room) (entries_of (names_in c) (sizes_in c) bs) es e in
       (none_writable p.0, p.1)
 
   pub writable_lent : Arrays c → Writable c bs room → Lent c.names c.lengths c.count longest
@@ -158,12 +158,12 @@ module _ (ms ls bs : List ℕ) (n room : ℕ) where
   abbrev lent : Contents
   lent = record { count = n; names = ms; lengths = ls }
 
-  pub told_many : most_scripts < n → some TooMany ≡ ground_to_write lent bs room
+  pub told_many : most_scripts < n → Some TooMany ≡ ground_to_write lent bs room
   unfolding ground_to_write
   told_many h = rw (lt-ltb most_scripts n h)
 
   module _ (r : Bool) (few : n ≤ most_scripts) (e : r ≡ well_named (stretches name_length n ms)) where
-    pub told-name : not r ≡ true → some BadName ≡ ground_to_write lent bs room
+    pub told-name : not r ≡ true → Some BadName ≡ ground_to_write lent bs room
     unfolding ground_to_write
     told-name h = rw (le-ltb most_scripts n few, ← e, not-true r h)
 
@@ -171,18 +171,18 @@ module _ (ms ls bs : List ℕ) (n room : ℕ) where
       good : well_named (stretches name_length n ms) ≡ true
       good = sym e ∙ not-false r named
 
-      pub told-sum : (k ≡ length bs → ⊥) → some BadBodies ≡ ground_to_write lent bs room
+      pub told-sum : (k ≡ length bs → ⊥) → Some BadBodies ≡ ground_to_write lent bs room
       unfolding ground_to_write
       told-sum h = rw (le-ltb most_scripts n few, good, ← d, ne_eqb k (length bs) h)
 
       module _ (added : k ≡ length bs) where
-        pub told-long : longest - contents_length n < length bs → some BadBodies ≡ ground_to_write lent bs room
+        pub told-long : longest - contents_length n < length bs → Some BadBodies ≡ ground_to_write lent bs room
         unfolding ground_to_write
         told-long h =
             rw (le-ltb most_scripts n few, good, ← d, eq-eqb k (length bs) added, lt-leb (contents_length n + length bs) longest (omega arith))
 
         module _ (short : length bs ≤ longest - contents_length n) where
-          pub told-room : room < contents_length n + length bs → some CutShort ≡ ground_to_write lent bs room
+          pub told-room : room < contents_length n + length bs → Some CutShort ≡ ground_to_write lent bs room
           unfolding ground_to_write
           told-room h =
               rw (
@@ -194,6 +194,6 @@ module _ (ms ls bs : List ℕ) (n room : ℕ) where
                 lt-ltb room (contents_length n + length bs) h,
               )
 
-          pub told_none : contents_length n + length bs ≤ room → none ≡ ground_to_write lent bs room
+          pub told_none : contents_length n + length bs ≤ room → None ≡ ground_to_write lent bs room
           told_none h =
               sym (writable_none lent bs room (record { few = few; named = good; added = sym d ∙ added; short = omega arith; roomy = h }))

@@ -1,6 +1,5 @@
 -- What the reader answers.
-use Rattle.std.specs.Prelude.{ℕ, ◌+◌, ◌≤◌, ◌<◌, ◌≡◌, List, ◌++◌, length, drop}
-use Rattle.std.proofs.Math.Option.{Option, none, some}
+use Rattle.std.specs.Prelude.{ℕ, ◌+◌, ◌≤◌, ◌<◌, ◌≡◌, List, ◌++◌, length, drop, Option, None, Some}
 use Rattle.bundle_rules.specs.declared.Refusal.{Refusal}
 use Rattle.bundle_rules.specs.declared.Refusal.TheVariants.{CutShort}
 use Rattle.bundle_rules.specs.Bundled.{most_scripts, longest, contents_length, Entry, bundled}
@@ -34,8 +33,8 @@ pub record Taken (c : Contents) (s : List ℕ) : Type 0 where
   pub sizes : sizes_in c ≡ sizes_of (contents s)
 
 abbrev pub Judged : BundleRead → List ℕ → Option Refusal → Type 0
-Judged r s (some g) = r.verdict ≡ Refused g
-Judged r s none = (r.verdict ≡ Good) × Taken r.contents s
+Judged r s (Some g) = r.verdict ≡ Refused g
+Judged r s None = (r.verdict ≡ Good) × Taken r.contents s
 
 pub record Judges (s : List ℕ) (more : ℕ) (r : BundleRead) : Type 0 where
   pub says : Judged r s (ground_of s (length s + more))

@@ -1,6 +1,5 @@
 -- What the writer writes, and answers.
-use Rattle.std.specs.Prelude.{ℕ, ◌+◌, ◌*◌, ◌<◌, ◌≡◌, Bool, true, false, cond, not, ◌&&◌, List, ◌++◌, eqb, leb, ltb, length, drop}
-use Rattle.std.proofs.Math.Option.{Option, none, some}
+use Rattle.std.specs.Prelude.{ℕ, ◌+◌, ◌*◌, ◌<◌, ◌≡◌, Bool, true, false, cond, not, ◌&&◌, List, ◌++◌, eqb, leb, ltb, length, drop, Option, None, Some}
 use Rattle.bundle_rules.specs.declared.Refusal.{Refusal}
 use Rattle.bundle_rules.specs.declared.Refusal.TheVariants.{CutShort, TooMany, BadName, BadBodies}
 use Rattle.bundle_rules.specs.Bundled.{name_length, most_scripts, longest, contents_length, bundled, well_named}
@@ -28,10 +27,10 @@ ground_against CutShort c bs room = ltb room (whole_length c bs)
 -- the writer's order: 21, 22, 23 and then 20
 unfoldable pub ground_to_write : Contents → List ℕ → ℕ → Option Refusal
 ground_to_write c bs room =
-    cond (ground_against TooMany c bs room) (some TooMany)
-    (cond (ground_against BadName c bs room) (some BadName)
-    (cond (ground_against BadBodies c bs room) (some BadBodies)
-    (cond (ground_against CutShort c bs room) (some CutShort) none)))
+    cond (ground_against TooMany c bs room) (Some TooMany)
+    (cond (ground_against BadName c bs room) (Some BadName)
+    (cond (ground_against BadBodies c bs room) (Some BadBodies)
+    (cond (ground_against CutShort c bs room) (Some CutShort) None)))
 
 abbrev pub turn_of : Refusal → ℕ
 turn_of TooMany = 1

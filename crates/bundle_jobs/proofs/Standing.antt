@@ -1,10 +1,10 @@
 -- Scripts stand where their rows say, so what is printed for a bundle is what is printed for the parts that its contents say.
+use Rattle.std.specs.Prelude.{Option, None, Some}
 use Prim.Native.Nat.{ℕ, ◌+◌}
 use native.Mathlib.Omega.{arith}
 use mathlib.Core.Path.{◌≡◌, refl, ap, sym, ◌∙◌}
 use mathlib.Core.Bool.{true}
 use mathlib.Core.List.{List, [], ◌∷◌, map}
-use mathlib.Core.Option.{Option, none, some}
 use lib.ListN.{length, take, drop, length-drop}
 use lib.Seq.{drop-drop, take-append_seam, drop-append_seam}
 use Rattle.bundle_rules.specs.declared.Refusal.{Refusal}
@@ -27,9 +27,9 @@ scripts_placed s at (e ∷ es) h =
     rw (b, scripts_placed s (at + length e.body) es r)
 
 -- WHAT IS PRINTED FOR A BUNDLE: for each row of its contents the heading, and what a run prints for the part that stands where the row says.
-no_ground : (o : Option Refusal) (xs es : List Entry) → or_refused o xs ≡ holds es → o ≡ none
-no_ground none xs es e = refl
-no_ground (some g) xs es e = let z : ◌≡◌ {A = ℕ} 0 1 = cc in absurd (omega arith)
+no_ground : (o : Option Refusal) (xs es : List Entry) → or_refused o xs ≡ holds es → o ≡ None
+no_ground None xs es e = refl
+no_ground (Some g) xs es e = let z : ◌≡◌ {A = ℕ} 0 1 = cc in absurd (omega arith)
 
 module _ (s : List ℕ) (es : List Entry) (e : read_as s ≡ holds es) where
   clear : Clear s (length s)

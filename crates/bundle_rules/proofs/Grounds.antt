@@ -1,12 +1,12 @@
 -- The four grounds: a refusal is given exactly when its ground is the first that holds; and the first 65,536 bytes, with the number of all,
 -- decide which.
+use Rattle.std.specs.Prelude.{Option, None, Some}
 use Prim.Native.Nat.{ℕ, ◌+◌, ◌≤◌, ◌<◌}
 use native.Mathlib.Omega.{arith}
 use mathlib.Core.Logic.{◌↔◌}
 use mathlib.Core.Path.{◌≡◌, refl, sym, ap, ◌∙◌}
 use mathlib.Core.Bool.{Bool, true, false, cond, ◌&&◌}
 use mathlib.Core.List.{List, ◌++◌}
-use mathlib.Core.Option.{Option, none, some}
 use borrow.Author.Tests.{ltb-false, leb-true, le-ltb, le-leb, not-false}
 use lib.Dec.{leb}
 use lib.ListN.{length, drop, length-append, length-drop}
@@ -22,7 +22,7 @@ use Rattle.bundle_rules.proofs.Rows.{rows-first}
 -- Four tests in order.
 
 abbrev chosen : Bool → Bool → Bool → Bool → Option Refusal
-chosen a b c d = cond a (some CutShort) (cond b (some TooMany) (cond c (some BadName) (cond d (some BadBodies) none)))
+chosen a b c d = cond a (Some CutShort) (cond b (Some TooMany) (cond c (Some BadName) (cond d (Some BadBodies) None)))
 
 abbrev test : Bool → Bool → Bool → Bool → Refusal → Bool
 test a b c d CutShort = a
@@ -66,8 +66,8 @@ record NoneHolds (a b c d : Bool) : Type 0 where
   bodies : d ≡ false
 
 abbrev Judged : Bool → Bool → Bool → Bool → Option Refusal → Type 0
-Judged a b c d none = NoneHolds a b c d
-Judged a b c d (some g) = First a b c d g
+Judged a b c d None = NoneHolds a b c d
+Judged a b c d (Some g) = First a b c d g
 
 judged : (a b c d : Bool) → Judged a b c d (chosen a b c d)
 judged true b c d = record { given = refl; first = before_cut b c d }
@@ -76,10 +76,10 @@ judged false false true d = record { given = refl; first = before-name d }
 judged false false false true = record { given = refl; first = before-bodies }
 judged false false false false = record { cut = refl; many = refl; name = refl; bodies = refl }
 
-tests-first : (a b c d : Bool) (g : Refusal) → chosen a b c d ≡ some g → First a b c d g
+tests-first : (a b c d : Bool) (g : Refusal) → chosen a b c d ≡ Some g → First a b c d g
 tests-first a b c d g e = rw e at (judged a b c d)
 
-tests_none : (a b c d : Bool) → chosen a b c d ≡ none → NoneHolds a b c d
+tests_none : (a b c d : Bool) → chosen a b c d ≡ None → NoneHolds a b c d
 tests_none a b c d e = rw e at (judged a b c d)
 
 module _ (s : List ℕ) (n : ℕ) where
@@ -89,13 +89,13 @@ module _ (s : List ℕ) (n : ℕ) where
   same_test BadName = refl
   same_test BadBodies = refl
 
-  pub ground-first : (g : Refusal) → ground_of s n ≡ some g → FirstGround s n g
+  pub ground-first : (g : Refusal) → ground_of s n ≡ Some g → FirstGround s n g
   unfolding ground_of
   ground-first g e =
       let f : First (cut_short s n) (too_many s) (bad_name s) (bad_bodies s n) g = tests-first (cut_short s n) (too_many s) (bad_name s) (bad_bodies s n) g e in
       record { given = sym (same_test g) ∙ f.given; first = λ h l. sym (same_test h) ∙ f.first h l }
 
-  pub first-ground : (g : Refusal) → FirstGround s n g → ground_of s n ≡ some g
+  pub first-ground : (g : Refusal) → FirstGround s n g → ground_of s n ≡ Some g
   unfolding ground_of
   first-ground CutShort f = rw f.given
   first-ground TooMany f = rw (f.first CutShort (omega arith), f.given)
@@ -105,15 +105,15 @@ module _ (s : List ℕ) (n : ℕ) where
   -- the four do not coincide
   pub ground-once : (g h : Refusal) → FirstGround s n g → FirstGround s n h → g ≡ h
   ground-once g h p q =
-      let a : ground_of s n ≡ some g = first-ground g p in
-      let b : ground_of s n ≡ some h = first-ground h q in
+      let a : ground_of s n ≡ Some g = first-ground g p in
+      let b : ground_of s n ≡ Some h = first-ground h q in
       cc
 
 -- EACH REFUSAL IS GIVEN EXACTLY WHEN ITS GROUND IS THE FIRST THAT HOLDS.
 
-refusal-told : (o : Option Refusal) (es : List Entry) (g : Refusal) → or_refused o es ≡ refused g → o ≡ some g
-refusal-told none es g e = let z : ◌≡◌ {A = ℕ} 0 1 = cc in absurd (omega arith)
-refusal-told (some h) es g e = cc
+refusal-told : (o : Option Refusal) (es : List Entry) (g : Refusal) → or_refused o es ≡ refused g → o ≡ Some g
+refusal-told None es g e = let z : ◌≡◌ {A = ℕ} 0 1 = cc in absurd (omega arith)
+refusal-told (Some h) es g e = cc
 
 pub refused_exactly : (s : List ℕ) (g : Refusal) → (read_as s ≡ refused g) ↔ FirstGround s (length s) g
 unfolding read_as
@@ -131,7 +131,7 @@ pub record Clear (s : List ℕ) (n : ℕ) : Type 0 where
   pub short : n ≤ longest
 
 module _ (s : List ℕ) (n : ℕ) where
-  pub none_clear : ground_of s n ≡ none → Clear s n
+  pub none_clear : ground_of s n ≡ None → Clear s n
   unfolding ground_of
   none_clear e =
       let t : NoneHolds (cut_short s n) (too_many s) (bad_name s) (bad_bodies s n) = tests_none (cut_short s n) (too_many s) (bad_name s) (bad_bodies s n) e in
@@ -146,7 +146,7 @@ module _ (s : List ℕ) (n : ℕ) where
         short = leb-true n longest b.1;
       }
 
-  pub clear_none : Clear s n → ground_of s n ≡ none
+  pub clear_none : Clear s n → ground_of s n ≡ None
   unfolding ground_of
   clear_none c =
       rw (le-ltb n (contents_length (count_of s)) c.table, le-ltb most_scripts (count_of s) c.few, c.named, c.ordered, le-leb n longest c.short)

@@ -1,11 +1,11 @@
 -- Both round trips: bytes are read as some scripts exactly when they are those scripts bundled, and the scripts fit.
+use Rattle.std.specs.Prelude.{Option, None, Some}
 use Prim.Native.Nat.{ℕ, ◌+◌, ◌*◌, ◌^◌, ◌≤◌, ◌<◌}
 use native.Mathlib.Omega.{arith}
 use mathlib.Core.Logic.{◌↔◌}
 use mathlib.Core.Path.{◌≡◌, refl, sym, ap, subst, ◌∙◌}
 use mathlib.Core.Bool.{true}
 use mathlib.Core.List.{List, ◌++◌}
-use mathlib.Core.Option.{Option, none, some}
 use lib.ListN.{length, take, drop, length-append, length-drop, take-append-drop}
 use lib.Seq.{take_at, drop_at, drop-drop}
 use Rattle.bundle_rules.specs.declared.Refusal.{Refusal}
@@ -105,9 +105,9 @@ read-bundled es f =
 
 -- What is read.
 
-told : (o : Option Refusal) (xs es : List Entry) → or_refused o xs ≡ holds es → (o ≡ none) × (es ≡ xs)
-told none xs es e = (refl, cc)
-told (some g) xs es e = let z : ◌≡◌ {A = ℕ} 0 1 = cc in absurd (omega arith)
+told : (o : Option Refusal) (xs es : List Entry) → or_refused o xs ≡ holds es → (o ≡ None) × (es ≡ xs)
+told None xs es e = (refl, cc)
+told (Some g) xs es e = let z : ◌≡◌ {A = ℕ} 0 1 = cc in absurd (omega arith)
 
 module _ (s : List ℕ) (c : Clear s (length s)) where
   read-end : contents_length (count_of s) + length (drop (contents_length (count_of s)) s) ≡ length s
@@ -145,7 +145,7 @@ pub record Accepted (s : List ℕ) (es : List Entry) : Type 0 where
   pub size : length s ≡ contents_length (length es) + length (bodies es)
 
 module _ (s : List ℕ) (es : List Entry) (e : read_as s ≡ holds es) where
-  no_ground : (ground_of s (length s) ≡ none) × (es ≡ entries_in s)
+  no_ground : (ground_of s (length s) ≡ None) × (es ≡ entries_in s)
   unfolding read_as
   no_ground = told (ground_of s (length s)) (entries_in s) es e
 

@@ -1,6 +1,5 @@
 -- Document 02, No. 1: what some bytes are as a bundle, or why they are none.
-use Rattle.std.specs.Prelude.{ℕ, zero, suc, ◌+◌, ◌<◌, ◌≡◌, Bool, true, false, cond, not, ◌&&◌, List, [], ◌∷◌, eqb, leb, ltb, length, take, drop}
-use Rattle.std.proofs.Math.Option.{Option, none, some}
+use Rattle.std.specs.Prelude.{ℕ, zero, suc, ◌+◌, ◌<◌, ◌≡◌, Bool, true, false, cond, not, ◌&&◌, List, [], ◌∷◌, eqb, leb, ltb, length, take, drop, Option, None, Some}
 use Rattle.bundle_rules.specs.declared.Refusal.{Refusal}
 use Rattle.bundle_rules.specs.declared.Refusal.TheVariants.{CutShort, TooMany, BadName, BadBodies}
 use Rattle.bundle_rules.specs.Numbers.{value_of, number_length}
@@ -81,10 +80,10 @@ ground BadBodies s n = bad_bodies s n
 -- checked in that order
 unfoldable pub ground_of : List ℕ → ℕ → Option Refusal
 ground_of s n =
-    cond (cut_short s n) (some CutShort)
-    (cond (too_many s) (some TooMany)
-    (cond (bad_name s) (some BadName)
-    (cond (bad_bodies s n) (some BadBodies) none)))
+    cond (cut_short s n) (Some CutShort)
+    (cond (too_many s) (Some TooMany)
+    (cond (bad_name s) (Some BadName)
+    (cond (bad_bodies s n) (Some BadBodies) None)))
 
 -- the same in words: a refusal's ground holds, and none of a lower number does
 pub record FirstGround (s : List ℕ) (n : ℕ) (g : Refusal) : Type 0 where
@@ -97,8 +96,8 @@ pub data Answer : Type 0 where
   holds : List Entry → Answer
 
 abbrev pub or_refused : Option Refusal → List Entry → Answer
-or_refused none es = holds es
-or_refused (some g) es = refused g
+or_refused None es = holds es
+or_refused (Some g) es = refused g
 
 abbrev pub entries_in : List ℕ → List Entry
 entries_in s = entries_of (names_of (contents s)) (sizes_of (contents s)) (drop (contents_length (count_of s)) s)

@@ -1,9 +1,9 @@
 -- What a poll and a drop come to, test by test.
+use Rattle.std.specs.Prelude.{None}
 use Prim.Native.Nat.{ℕ, ◌≤◌, ◌<◌}
 use mathlib.Core.Path.{◌≡◌, ◌∙◌}
 use mathlib.Core.Bool.{Bool, true, false, not, ◌&&◌}
 use mathlib.Core.List.{List}
-use mathlib.Core.Option.{none}
 use borrow.Author.Tests.{lt-ltb, le-ltb, le-leb, lt-leb}
 use lib.ListN.{get_or}
 use Rattle.rules.specs.declared.Slot.{Slot}
@@ -65,7 +65,7 @@ module _ (h : Head) (r : Request) (ss ts : List ℕ) (f w : Bool) (ef : f ≡ is
   as_direct d p t e q = q ∙ rw (← ef, ← ew, t, e ts)
 
 -- ---- the request that is read at the slot: a poll, and a drop
-module _ (h : Head) (x : Slot) (r : Request) (ss ts : List ℕ) (e : Stands r (get_or (slots_of ss) x.0 none)) where
+module _ (h : Head) (x : Slot) (r : Request) (ss ts : List ℕ) (e : Stands r (get_or (slots_of ss) x.0 None)) where
   pub poll-holds : r.holding ≡ true → Holds ≡ polling x (plain_of h ss ts)
   unfolding polling
   poll-holds t = rw (← e.view, t)

@@ -1,11 +1,11 @@
 -- Whether every queued request is Bypassable, looked at one after another; and the direct rule's tests, which may be made in any order.
+use Rattle.std.specs.Prelude.{Option, None}
 use Prim.Native.Nat.{ℕ, suc, ◌+◌, ◌≤◌, ◌<◌}
 use native.Mathlib.Numerals.{add-one}
 use native.Mathlib.Omega.{arith}
 use mathlib.Core.Path.{◌≡◌, refl, sym, ap, ◌∙◌}
 use mathlib.Core.Bool.{Bool, true, false, cond, not, ◌&&◌, ◌||◌}
 use mathlib.Core.List.{List, [], ◌∷◌}
-use mathlib.Core.Option.{Option, none}
 use borrow.Author.Tests.{le-leb, lt-leb, not-true, not-false}
 use lib.Dec.{leb}
 use lib.ListN.{length, get_or, drop, take, drop_of_length-le}
@@ -33,7 +33,7 @@ module _ (w : Waiters) (rs : List (Option RequestRule)) (i : ℕ) (sized : lengt
   abbrev Rest : ℕ → Type 0
   Rest k = every_bypassable (drop k (waiters_of w)) rs ≡ every_bypassable (waiters_of w) rs
 
-  module _ (r : Request) (b : Bool) (here : i < w.len) (e : Stands r (get_or rs (get_or w.slots i slot0).0 none)) (eb : b ≡ is_bypassable r.ask.kind) where
+  module _ (r : Request) (b : Bool) (here : i < w.len) (e : Stands r (get_or rs (get_or w.slots i slot0).0 None)) (eb : b ≡ is_bypassable r.ask.kind) where
     front : every_bypassable (drop i (waiters_of w)) rs ≡ (b && every_bypassable (drop (suc i) (waiters_of w)) rs)
     unfolding every_bypassable waiters_of
     front = rw (slice-cons i w.len w.slots slot0 here (omega arith), ← e.view, ← eb)

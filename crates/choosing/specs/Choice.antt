@@ -1,7 +1,5 @@
 -- What a step comes to, and its effect by that: the rules of a step in two parts.
-use Rattle.std.specs.Prelude.{ℕ, ◌-◌, Bool, true, false, not, ◌&&◌, ◌||◌, List, [], ◌∷◌, get_or, set}
-use Rattle.std.proofs.Math.Option
-use Rattle.std.proofs.Math.Option.{Option, none, some}
+use Rattle.std.specs.Prelude.{ℕ, ◌-◌, Bool, true, false, not, ◌&&◌, ◌||◌, List, [], ◌∷◌, get_or, set, Option, None, Some, unwrap_or}
 use Rattle.rules.specs.declared.TaskId.{TaskId}
 use Rattle.rules.specs.declared.Slot.{Slot}
 use Rattle.rules.specs.declared.Ask.{Ask}
@@ -27,7 +25,7 @@ use Rattle.choosing.specs.declared.Choice.TheVariants.{Makes, Polls, Tries, Rele
 -- every queued request is Bypassable, of the slots alone
 unfoldable pub every_bypassable : List Slot → List (Option Request) → Bool
 every_bypassable [] rs = true
-every_bypassable (x ∷ q) rs = is_bypassable (Option.get_or (get_or rs x.0 none) no_request).ask.kind && every_bypassable q rs
+every_bypassable (x ∷ q) rs = is_bypassable (unwrap_or (get_or rs x.0 None) no_request).ask.kind && every_bypassable q rs
 
 -- who may pass those queued
 abbrev pub passes : Bool → Priority → List Slot → List (Option Request) → Bool
@@ -50,7 +48,7 @@ choice_of Finish p = Finishes
 
 -- a request made in a slot, a poll that was decided, and a drop
 abbrev pub make_at : ℕ → TaskId → Ask → Plain → W.Outcome
-make_at i t a p = W.quiet (made (record { 0 = i })) (with_slots (set p.slots i (some (unpolled a t))) p)
+make_at i t a p = W.quiet (made (record { 0 = i })) (with_slots (set p.slots i (Some (unpolled a t))) p)
 
 abbrev pub poll_by : Polling → TaskId → Slot → Plain → W.Outcome
 poll_by q t x p =

@@ -2,8 +2,7 @@
 // `Acquire`. Slots are only read, and tasks are not looked at.
 #![tactic(auto)]
 
-ghost use Rattle.std.specs.Prelude.{◌≡◌, false, ◌&&◌, List, ℕ, ◌*◌, ◌-◌, ◌≤◌, length, get_or};
-ghost use Rattle.std.proofs.Math.Option.{none};
+ghost use Rattle.std.specs.Prelude.{◌≡◌, false, ◌&&◌, List, ℕ, ◌*◌, ◌-◌, ◌≤◌, length, get_or, None};
 ghost use Rattle.rules.specs.Sizes.{slot_count};
 ghost use Rattle.rules.specs.State.{is_strict};
 ghost use Rattle.rules.specs.Polling.{queues as queues_by, takes_in, polled as polled_of};
@@ -237,7 +236,7 @@ fn poll_plain(h: Head, slots: &[u32], r: Request) -> Polling
 
 // What a poll does, of the request that was read at the slot.
 pub fn polling(h: Head, slots: &[u32], x: Slot, r: Request) -> Polling
-    requires { (h.waiters.len ≤ slot_count) × (length slots.now ≡ slot_count * request_words) × (Stands r (get_or (slots_of slots.now) x.0 none)) }
+    requires { (h.waiters.len ≤ slot_count) × (length slots.now ≡ slot_count * request_words) × (Stands r (get_or (slots_of slots.now) x.0 None)) }
     ensures { (tasks : List ℕ) → result ≡ polling_of x (plain_of h slots.now tasks) }
 {
     if r.holding {
@@ -256,7 +255,7 @@ pub fn polling(h: Head, slots: &[u32], x: Slot, r: Request) -> Polling
 // What a drop does before the slot is free: the request that was read there is queued, has the reservation, or holds permits that nobody
 // was told of.
 pub fn dropping(h: Head, x: Slot, r: Request) -> Dropping
-    ensures { (slots tasks : List ℕ) → Stands r (get_or (slots_of slots) x.0 none) → result ≡ dropping_of x (plain_of h slots tasks) }
+    ensures { (slots tasks : List ℕ) → Stands r (get_or (slots_of slots) x.0 None) → result ≡ dropping_of x (plain_of h slots tasks) }
 {
     if r.queued {
         return Dropping::Leaving;

@@ -1,9 +1,9 @@
 -- The reservation dropped, and the whole.
+use Rattle.std.specs.Prelude.{Option, None, Some}
 use Prim.Native.Nat.{ℕ}
 use mathlib.Core.Path.{◌≡◌, refl, sym, ap, ◌∙◌}
 use mathlib.Core.Bool.{Bool, true, false, cond, not}
 use mathlib.Core.List.{List, [], ◌∷◌}
-use mathlib.Core.Option.{Option, none, some}
 use borrow.Author.Tests.{not-true, not-false}
 use lib.ListN.{length}
 use Rattle.rules.specs.declared.Slot.{Slot}
@@ -37,17 +37,17 @@ module _ (h : Head) (ss ts : List ℕ) (s : Shaped h ss ts) where
 
   pub none_made : not h.reservation.made ≡ true → Shows h ss ts (drop_reservation (reservation_of h.reservation) p)
   none_made m =
-      let e : reservation_of h.reservation ≡ none = rw (not-true h.reservation.made m) in
+      let e : reservation_of h.reservation ≡ None = rw (not-true h.reservation.made m) in
       record { shaped = s; view = ap (λ (o : Option Slot). drop_reservation o p) (sym e) }
 
   pub dropped : not h.reservation.made ≡ false → (after : List ℕ) → length after ≡ length ts
       → TasksShow h.tasks after ts (owner_changed Wake (request_in (slots_of ss) h.reservation.slot) (tasks_of h.tasks ts))
-      → (v : Reservation) → reservation_of v ≡ none → Shows (reserved_as v h) ss after (drop_reservation (reservation_of h.reservation) p)
+      → (v : Reservation) → reservation_of v ≡ None → Shows (reserved_as v h) ss after (drop_reservation (reservation_of h.reservation) p)
   dropped m after l k v n =
       let x = h.reservation.slot in
-      let e : reservation_of h.reservation ≡ some x = rw (not-false h.reservation.made m) in
+      let e : reservation_of h.reservation ≡ Some x = rw (not-false h.reservation.made m) in
       shown (reserved_as v h) ss after _ _ (unreserved_shown h ss ts s after _ k l v n)
-      (sym (wakes_one x (with_reservation none p)) ∙ ap (λ (o : Option Slot). drop_reservation o p) (sym e))
+      (sym (wakes_one x (with_reservation None p)) ∙ ap (λ (o : Option Slot). drop_reservation o p) (sym e))
 
   -- Nothing, if it was closed before.
   pub closed-before : h.closed ≡ true → Shows h ss ts (closing p)

@@ -1,9 +1,9 @@
 -- What each effect asks, from the step's not being refused on a sound state: first of a state with clocks, then of a plain one.
+use Rattle.std.specs.Prelude.{None}
 use Prim.Native.Nat.{ℕ, ◌-◌, ◌≤◌}
 use native.Mathlib.Omega.{arith}
 use mathlib.Core.Path.{◌≡◌, refl, sym, ap, subst, ◌∙◌}
 use mathlib.Core.Bool.{true, false, false≢true}
-use mathlib.Core.Option.{none}
 use Rattle.rules.specs.declared.TaskId.{TaskId}
 use Rattle.rules.specs.declared.Slot.{Slot}
 use Rattle.rules.specs.declared.Priority.{Priority}
@@ -107,11 +107,11 @@ asks_act t Close s h k = tt
 asks_act t Sleep s h k = tt
 asks_act t Finish s h k = tt
 
-able_state : (a : Step) (s : State) → Sound s → refusal a s ≡ none → Able (choice_of a.act (forget s)) (forget s)
+able_state : (a : Step) (s : State) → Sound s → refusal a s ≡ None → Able (choice_of a.act (forget s)) (forget s)
 able_state a s h e = record { once = h.once; asks = asks_act a.actor a.act s h (accepted a s e).allowed }
 
 -- An accepted step on a sound plain state has what its effect asks.
-pub able : (a : Step) (p : Plain) (c : Choice) → SoundPlain p → W.refusal a p ≡ none → c ≡ choice_of a.act p → Able c p
+pub able : (a : Step) (p : Plain) (c : Choice) → SoundPlain p → W.refusal a p ≡ None → c ≡ choice_of a.act p → Able c p
 able a p c h e ec =
     subst (λ (c : Choice). Able c p) (sym ec)
     (subst (λ (q : Plain). Able (choice_of a.act q) q) (forget-lift p) (able_state a (lift p) (sound-lift p h) (sym (refusal_of_lift a p) ∙ e)))

@@ -1,10 +1,10 @@
 -- In an arm of a match, the decision is the arm's: a poll by each that moves something; and a try that takes.
+use Rattle.std.specs.Prelude.{None, Some}
 use Prim.Native.Nat.{ℕ, ◌≤◌, ◌<◌}
 use native.Mathlib.Omega.{arith}
 use mathlib.Core.Path.{◌≡◌, refl, sym, ap, subst, ◌∙◌}
 use mathlib.Core.Bool.{true, false, cond, false≢true}
 use mathlib.Core.List.{List, [], ◌∷◌}
-use mathlib.Core.Option.{none, some}
 use lib.ListN.{length}
 use Rattle.rules.specs.declared.TaskId.{TaskId}
 use Rattle.rules.specs.declared.Slot.{Slot}
@@ -55,11 +55,11 @@ module _ (q : Polling) (n : ℕ) (t : TaskId) (x : Slot) (h : Head) (ss ts : Lis
 
   module _ (r : Answered) (after awake gs : List ℕ) where
     pub polls_reserved : q ≡ TakesReserved
-        → Answers r after awake gs (poll_takes t x n (plain_of h ss ts ▷ with_reservation none ▷ taking n ▷ wake_unfair)) → Does r after awake gs q
+        → Answers r after awake gs (poll_takes t x n (plain_of h ss ts ▷ with_reservation None ▷ taking n ▷ wake_unfair)) → Does r after awake gs q
     unfolding poll_work
     polls_reserved e a =
         by r after awake gs TakesReserved e
-        (subst (λ (k : ℕ). Answers r after awake gs (poll_takes t x k (plain_of h ss ts ▷ with_reservation none ▷ taking k ▷ wake_unfair))) m.count a)
+        (subst (λ (k : ℕ). Answers r after awake gs (poll_takes t x k (plain_of h ss ts ▷ with_reservation None ▷ taking k ▷ wake_unfair))) m.count a)
 
     pub polls_taking : q ≡ Takes
         → Answers r after awake gs (poll_takes t x n (plain_of h ss ts ▷ taking n ▷ leave x ▷ reblock t)) → Does r after awake gs q
@@ -69,7 +69,7 @@ module _ (q : Polling) (n : ℕ) (t : TaskId) (x : Slot) (h : Head) (ss ts : Lis
         (subst (λ (k : ℕ). Answers r after awake gs (poll_takes t x k (plain_of h ss ts ▷ taking k ▷ leave x ▷ reblock t))) m.count a)
 
     pub polls_reserving : q ≡ Reserves
-        → AnyGrants r after awake (quiet pending (alter_request x (polled_pending t) (plain_of h ss ts ▷ leave x ▷ with_reservation (some x) ▷ reblock t))) → Does r after awake gs q
+        → AnyGrants r after awake (quiet pending (alter_request x (polled_pending t) (plain_of h ss ts ▷ leave x ▷ with_reservation (Some x) ▷ reblock t))) → Does r after awake gs q
     unfolding poll_work
     polls_reserving e a = by r after awake gs Reserves e (a gs)
 

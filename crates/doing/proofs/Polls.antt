@@ -1,10 +1,10 @@
 -- A poll put together from its parts.
+use Rattle.std.specs.Prelude.{Option, None, Some}
 use Prim.Native.Nat.{ℕ, ◌+◌, ◌-◌}
 use native.Mathlib.Omega.{arith}
 use mathlib.Core.Path.{◌≡◌, refl, ap, subst, ◌∙◌}
 use mathlib.Core.Bool.{Bool, cond}
 use mathlib.Core.List.{List, [], ◌∷◌, ◌++◌}
-use mathlib.Core.Option.{Option, none, some}
 use lib.ListN.{length}
 use Rattle.rules.specs.declared.TaskId.{TaskId}
 use Rattle.rules.specs.declared.Slot.{Slot}
@@ -64,9 +64,9 @@ module _ (t : TaskId) (x : Slot) (n : ℕ) where
   pub then_granted : (b : Head) (ss ts after gs : List ℕ) (a : Plain) (r : Answered) → Shows b ss ts a → GrantsPoll r after gs t x n b ss → Answers r after ts gs (poll_takes t x n a)
   then_granted b ss ts after gs a r k g = subst (λ (p : Plain). Answers r after ts gs (poll_takes t x n p)) k.view (g ts k.shaped)
 
-  pub reserved_taken : (h b : Head) (v : Reservation) (ss ts awake after gs : List ℕ) (r : Answered) → reservation_of v ≡ none
+  pub reserved_taken : (h b : Head) (v : Reservation) (ss ts awake after gs : List ℕ) (r : Answered) → reservation_of v ≡ None
       → Shows b ss awake (wake_unfair (plain_of (head_with (h.stock - n) h.waiters v h) ss ts)) → GrantsPoll r after gs t x n b ss
-      → Answers r after awake gs (poll_takes t x n (plain_of h ss ts ▷ with_reservation none ▷ taking n ▷ wake_unfair))
+      → Answers r after awake gs (poll_takes t x n (plain_of h ss ts ▷ with_reservation None ▷ taking n ▷ wake_unfair))
   reserved_taken h b v ss ts awake after gs r e k g =
       then_granted b ss awake after gs _ r
       (record { shaped = k.shaped; view = k.view ∙ ap (λ (o : Option Slot). plain_of h ss ts ▷ with_reservation o ▷ taking n ▷ wake_unfair) e }) g
@@ -84,13 +84,13 @@ pub left_there : (h l : Head) (x : Slot) (ss ts left : List ℕ) → Shaped h ss
 left_there h l x ss ts left s k = (k ts s).shaped
 
 pub reserves_so : (t : TaskId) (x : Slot) (h l : Head) (v : Reservation) (ss ts left awake after : List ℕ) (r : Answered) → Shaped h ss ts → AnyTasks (leave x) l left h ss
-    → reservation_of v ≡ some x → Shows (reserved_as v l) left awake (reblock t (plain_of (reserved_as v l) left ts))
+    → reservation_of v ≡ Some x → Shows (reserved_as v l) left awake (reblock t (plain_of (reserved_as v l) left ts))
     → SlotsAnswer (λ s. quiet pending (alter_request x (polled_pending t) s)) r after (reserved_as v l) left
-    → AnyGrants r after awake (quiet pending (alter_request x (polled_pending t) (plain_of h ss ts ▷ leave x ▷ with_reservation (some x) ▷ reblock t)))
+    → AnyGrants r after awake (quiet pending (alter_request x (polled_pending t) (plain_of h ss ts ▷ leave x ▷ with_reservation (Some x) ▷ reblock t)))
 reserves_so t x h l v ss ts left awake after r s k e w a gs =
     let state =
     w.view
     ∙ ap (λ (o : Option Slot). reblock t (with_reservation o (plain_of l left ts))) e
-    ∙ ap (λ (p : Plain). reblock t (with_reservation (some x) p)) (k ts s).view
+    ∙ ap (λ (p : Plain). reblock t (with_reservation (Some x) p)) (k ts s).view
     in
     subst (λ (p : Plain). Answers r after awake gs (quiet pending (alter_request x (polled_pending t) p))) state (a awake gs w.shaped)

@@ -1,10 +1,10 @@
 -- A release and a drop put together from their parts.
+use Rattle.std.specs.Prelude.{None}
 use Prim.Native.Nat.{ℕ, ◌+◌}
 use native.Mathlib.Omega.{arith}
 use mathlib.Core.Path.{◌≡◌, refl, sym, ap, subst, ◌∙◌}
 use mathlib.Core.Bool.{Bool, true, false, cond}
 use mathlib.Core.List.{List}
-use mathlib.Core.Option.{none}
 use borrow.Author.Tests.{eq-eqb, ne_eqb}
 use lib.Dec.{eqb}
 use lib.ListN.{length, set}
@@ -69,7 +69,7 @@ module _ (d : Dropping) (n : ℕ) (x : Slot) (s : Plain) (m : MayDrop d n x s) (
   unfolding drop_work
   leaves e g = as_decided Leaving e g
 
-  pub unreserves : d ≡ Unreserving → Ungranted r ss ts (wake_unfair (with_reservation none s)) → Grants r ss ts gs (drop_work d x s)
+  pub unreserves : d ≡ Unreserving → Ungranted r ss ts (wake_unfair (with_reservation None s)) → Grants r ss ts gs (drop_work d x s)
   unfolding drop_work
   unreserves e g = as_decided Unreserving e (g gs)
 
@@ -85,10 +85,10 @@ module _ (d : Dropping) (n : ℕ) (x : Slot) (s : Plain) (m : MayDrop d n x s) (
 
 -- and the slot is free
 pub dropped : (r : Granting) (ss ts gs after : List ℕ) (x : Slot) (g : GrantingRule) → Grants r ss ts gs g
-    → SlotsShow after ss (set (slots_of ss) x.0 none) → length after ≡ length ss
+    → SlotsShow after ss (set (slots_of ss) x.0 None) → length after ≡ length ss
     → Grants r after ts gs (record { grants = g.grants; state = free x g.state })
 dropped r ss ts gs after x g k f n =
-    let v = slots_shown r.head ss ts k.state.shaped after (set (slots_of ss) x.0 none) f n in
+    let v = slots_shown r.head ss ts k.state.shaped after (set (slots_of ss) x.0 None) f n in
     record {
       state = record { shaped = v.shaped; view = v.view ∙ ap (λ (a : Plain). free x a) k.state.view };
       grants = k.grants;

@@ -2,8 +2,7 @@
 // a head by value and lent words. The steps that leave the head as it is are resting's.
 #![tactic(auto)]
 
-ghost use Rattle.std.specs.Prelude.{◌≡◌, true, false, cond, ◌*◌, ◌≤◌, ◌<◌, length};
-ghost use Rattle.std.proofs.Math.Option.{none, some};
+ghost use Rattle.std.specs.Prelude.{◌≡◌, true, false, cond, ◌*◌, ◌≤◌, ◌<◌, length, None, Some};
 ghost use Rattle.rules.specs.declared.Direct.TheVariants.{Take};
 ghost use Rattle.rules.specs.Sizes.{slot_count};
 ghost use Rattle.rules.specs.Broken.{twice};
@@ -96,7 +95,7 @@ fn take_reserved(
     asked: u32,
 ) -> Answered
     requires { (Shaped h slots.old tasks.old) × (length grants.old ≡ slot_count * 3) × (asked ≤ h.stock) }
-    ensures { Answers result slots.new tasks.new grants.new (poll_takes me x asked (plain_of h slots.old tasks.old ▷ with_reservation none ▷ taking asked ▷ wake_unfair)) }
+    ensures { Answers result slots.new tasks.new grants.new (poll_takes me x asked (plain_of h slots.old tasks.old ▷ with_reservation None ▷ taking asked ▷ wake_unfair)) }
 {
     let nobody = Reservation::none();
     let mut taken = h;
@@ -129,7 +128,7 @@ fn take_and_leave(
 // A request takes the reservation, and its task waits.
 fn reserve(h: Head, slots: &mut [u32], tasks: &mut [u32], me: TaskId, x: Slot) -> Answered
     requires { Shaped h slots.old tasks.old }
-    ensures { AnyGrants result slots.new tasks.new (quiet_of pending (alter_request x (polled_pending me) (plain_of h slots.old tasks.old ▷ leave x ▷ with_reservation (some x) ▷ reblock me))) }
+    ensures { AnyGrants result slots.new tasks.new (quiet_of pending (alter_request x (polled_pending me) (plain_of h slots.old tasks.old ▷ leave x ▷ with_reservation (Some x) ▷ reblock me))) }
 {
     let mut mine = scanning::leave(h, slots, x);
     let reservation = Reservation::of(x);
@@ -231,7 +230,7 @@ fn release(
 // The reservation ends, and the others race.
 fn unreserve(h: Head, slots: &[u32], tasks: &mut [u32]) -> Granting
     requires { Shaped h slots.now tasks.old }
-    ensures { Ungranted result slots.now tasks.new (plain_of h slots.now tasks.old ▷ with_reservation none ▷ wake_unfair) }
+    ensures { Ungranted result slots.now tasks.new (plain_of h slots.now tasks.old ▷ with_reservation None ▷ wake_unfair) }
 {
     let woken = rousing::cancel_reservation(h, slots, tasks);
     Granting {

@@ -1,10 +1,10 @@
 -- Words that are all 0: the loop that clears them, and what they stand for.
+use Rattle.std.specs.Prelude.{None}
 use Prim.Native.Nat.{ℕ, zero, suc, ◌+◌, ◌*◌, ◌≤◌, ◌<◌}
 use native.Mathlib.Decide.{dec_lt}
 use native.Mathlib.Omega.{arith}
 use mathlib.Core.Path.{◌≡◌, refl, sym, ◌∙◌}
 use mathlib.Core.List.{List}
-use mathlib.Core.Option.{none}
 use lib.ListN.{length, get_or, set, drop, replicate, length-set, length-take, get_or-replicate, get_or-eq_default}
 use lib.Seq.{get_or-set_same, get_or-set_other, get_or-take, get_or-drop, ext_get_or}
 use Rattle.rules.specs.Sizes.{width, slot_count}
@@ -67,9 +67,9 @@ module _ (xs ys : List ℕ) (c : Cleared xs ys) where
     | no l ↦ get_or-eq_default (row w xs p) 0 (simp length-take (omega arith))
   ]
 
-  pub slots-free : slots_of xs ≡ replicate slot_count none
+  pub slots-free : slots_of xs ≡ replicate slot_count None
   unfolding slots_of decoded
-  slots-free = table_same (slot_in xs) none (λ k. rw (row_cleared request_words k 0)) slot_count 0
+  slots-free = table_same (slot_in xs) None (λ k. rw (row_cleared request_words k 0)) slot_count 0
 
   pub slots-stand : SlotsStand xs
   unfolding row_stands

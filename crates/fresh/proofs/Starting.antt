@@ -1,10 +1,10 @@
 -- A start put together from its parts: who, when, what 12 refuses, and what is accepted.
+use Rattle.std.specs.Prelude.{Option, None, Some, is_some}
 use Prim.Native.Nat.{ℕ, zero, suc, ◌*◌, ◌≤◌, ◌<◌}
 use native.Mathlib.Omega.{arith}
 use mathlib.Core.Path.{◌≡◌, refl, sym, ap, ◌∙◌}
 use mathlib.Core.Bool.{Bool, true, false, ◌||◌, or-false, false≢true}
 use mathlib.Core.List.{List, [], ◌∷◌, map}
-use mathlib.Core.Option.{Option, none, some}
 use borrow.Author.Tests.{ltb-false, leb-false, eqb-true, not-false}
 use lib.Dec.{ltb, eqb}
 use lib.ListN.{length, get_or, take, replicate, length-replicate}
@@ -15,7 +15,7 @@ use Rattle.rules.specs.declared.Fairness.TheVariants.{StrictlyFair}
 use Rattle.rules.specs.Sizes.{max_tasks, slot_count, width}
 use Rattle.rules.specs.Clock.{Clock, empty}
 use Rattle.rules.specs.Request as R
-use Rattle.rules.specs.State.{Batch, is_some}
+use Rattle.rules.specs.State.{Batch}
 use Rattle.rules.specs.Fresh.{Start, first_batch, fresh, refused_fresh, not_below, refuses12}
 use Rattle.rules.specs.Steps.{quiet}
 use Rattle.rules.specs.Steps.Answer.{refused, done}
@@ -63,12 +63,12 @@ who_starts h f b k n slots tasks slots₀ tasks₀ i few ls lt cs ct =
 unready_formed : (b : Batches) → b.ready ≡ false → WellFormed b
 unready_formed b e r = absurd (false≢true (sym e ∙ r))
 
-unready_none : (b : Batches) (sizes rows : List ℕ) → b.ready ≡ false → stands_in b sizes rows ≡ none
+unready_none : (b : Batches) (sizes rows : List ℕ) → b.ready ≡ false → stands_in b sizes rows ≡ None
 unfolding set_up_if
 unready_none b sizes rows e = rw e
 
 module _ (b : Batches) (last last₀ clocks clocks₀ : List ℕ) (n : ℕ) (cs : List Clock) (cleared : Cleared last last₀) (sized : length last₀ ≡ width) (heard : Heard clocks clocks₀ n cs) (wide : length clocks₀ ≡ max_tasks * width) where
-  pub unmade_starts : b.ready ≡ false → (sizes rows : List ℕ) → Lent sizes rows → Begins b sizes rows last clocks n cs none
+  pub unmade_starts : b.ready ≡ false → (sizes rows : List ℕ) → Lent sizes rows → Begins b sizes rows last clocks n cs None
   unmade_starts e sizes rows l =
       record {
         formed = unready_formed b e;
@@ -81,7 +81,7 @@ module _ (b : Batches) (last last₀ clocks clocks₀ : List ℕ) (n : ℕ) (cs 
       }
 
   pub made_starts : (k : ℕ) (t : TaskId) (c : VectorClock) (sizes rows sizes₀ rows₀ : List ℕ) → Lent sizes₀ rows₀ → length sizes ≡ length sizes₀ → length rows ≡ length rows₀ → t.0 < n → c.0 ≡ clock_in max_tasks clocks t.0
-      → Stood b sizes rows (first_batch k c.0) → Begins b sizes rows last clocks n cs (fresh_batches k cs (some t))
+      → Stood b sizes rows (first_batch k c.0) → Begins b sizes rows last clocks n cs (fresh_batches k cs (Some t))
   unfolding fresh_batches
   made_starts k t c sizes rows sizes₀ rows₀ r ls lr l e s =
       let g : get_or cs t.0 (empty width) ≡ c.0 = rw (← heard.first) (get_or-take n (clocks_at max_tasks clocks) t.0 (empty width) l ∙ sym e) in
@@ -98,22 +98,22 @@ module _ (b : Batches) (last last₀ clocks clocks₀ : List ℕ) (n : ℕ) (cs 
 -- ---- both
 -- slots of which none is in use
 abbrev frees : ℕ → List (Option Request)
-frees n = replicate n none
+frees n = replicate n None
 
-free-slots : (n : ℕ) (cs : List Clock) → in_slots (map is_some (frees n)) cs ≡ replicate n none
+free-slots : (n : ℕ) (cs : List Clock) → in_slots (map is_some (frees n)) cs ≡ replicate n None
 unfolding in_slots
 free-slots zero cs = refl
-free-slots (suc n) [] = ap (λ (l : List (Option Clock)). none ∷ l) (free-slots n [])
-free-slots (suc n) (c ∷ cs) = ap (λ (l : List (Option Clock)). none ∷ l) (free-slots n cs)
+free-slots (suc n) [] = ap (λ (l : List (Option Clock)). None ∷ l) (free-slots n [])
+free-slots (suc n) (c ∷ cs) = ap (λ (l : List (Option Clock)). None ∷ l) (free-slots n cs)
 
-whole-free : (n : ℕ) → whole_slots (replicate n none) (replicate n none) ≡ replicate n none
+whole-free : (n : ℕ) → whole_slots (replicate n None) (replicate n None) ≡ replicate n None
 unfolding whole_slots
 whole-free zero = refl
-whole-free (suc n) = ap (λ (l : List (Option R.Request)). none ∷ l) (whole-free n)
+whole-free (suc n) = ap (λ (l : List (Option R.Request)). None ∷ l) (whole-free n)
 
 -- the times of a state in which nobody waits
 idle-times : (f : Fairness) (b : Bool) (k n : ℕ) (v : Kept) (cs : List Clock) (o : Option (List Batch)) → take n v.clocks ≡ cs → v.batches ≡ o → v.last ≡ empty width
-    → times_kept (idle f b k n) v ≡ record { clocks = cs; requests = replicate slot_count none; batches = o; last = empty width }
+    → times_kept (idle f b k n) v ≡ record { clocks = cs; requests = replicate slot_count None; batches = o; last = empty width }
 unfolding idle
 idle-times f b k n v cs o ec eb el = rw (length-replicate n no_task, ec, eb, el, free-slots slot_count v.requests)
 
@@ -131,13 +131,13 @@ shaped h b w n cs o sh g m = record { head = sh; formed = g.formed; ring = g.rin
 seen-whole : (h : Head) (b : Batches) (w : Words) (f : Fairness) (c : Bool) (k n : ℕ) (cs : List Clock) (o : Option (List Batch))
     → plain_of h w.slots w.tasks ≡ idle f c k n
     → Begins b w.sizes w.rows w.last w.clocks n cs o
-    → view_of (record { head = h; batches = b }) w ≡ whole (idle f c k n) (record { clocks = cs; requests = replicate slot_count none; batches = o; last = empty width })
+    → view_of (record { head = h; batches = b }) w ≡ whole (idle f c k n) (record { clocks = cs; requests = replicate slot_count None; batches = o; last = empty width })
 seen-whole h b w f c k n cs o e g =
     let v : Kept = kept_of b w.sizes w.rows w.last w.makers w.clocks in
     ap (λ (p : Plain). whole p (times_kept p v)) e ∙ ap (whole (idle f c k n)) (idle-times f c k n v cs o g.heard g.stands g.latest)
 
 -- the state that 12 names
-whole-refused : whole (idle StrictlyFair true 0 0) (record { clocks = []; requests = replicate slot_count none; batches = none; last = empty width }) ≡ refused_fresh
+whole-refused : whole (idle StrictlyFair true 0 0) (record { clocks = []; requests = replicate slot_count None; batches = None; last = empty width }) ≡ refused_fresh
 unfolding whole idle refused_fresh whole_tasks
 whole-refused = rw (whole-free slot_count)
 
@@ -150,8 +150,8 @@ module _ (h : Head) (b : Batches) (w : Words) (sized : length w.makers ≡ slot_
       let g = unmade_starts b w.last last₀ w.clocks w.clocks 0 [] c l none-heard k e w.sizes w.rows r in
       record {
         answer = refl;
-        view = seen-whole h b w StrictlyFair true 0 0 [] none s.view g ∙ whole-refused;
-        shaped = shaped h b w 0 [] none s.shaped g sized;
+        view = seen-whole h b w StrictlyFair true 0 0 [] None s.view g ∙ whole-refused;
+        shaped = shaped h b w 0 [] None s.shaped g sized;
       }
 
   pub gives-fresh : (a : Start) → Shows h w.slots w.tasks (idle a.fairness false a.stock a.tasks)
@@ -203,5 +203,5 @@ module _ (a : Start) (bad : Bool) (e : bad ≡ (bad_sizes a.tasks (length a.cloc
   pub square : bad ≡ false → length a.clocks ≡ a.tasks * a.tasks
   square h = (sized a.tasks (length a.clocks) _ refl (neither _ (not_below a.tasks a.maker) (sym e ∙ h)).0).1
 
-  pub below : (t : TaskId) → a.maker ≡ some t → bad ≡ false → t.0 < a.tasks
+  pub below : (t : TaskId) → a.maker ≡ Some t → bad ≡ false → t.0 < a.tasks
   below t m h = leb-false a.tasks t.0 (rw m at (neither (bad_sizes a.tasks (length a.clocks)) (not_below a.tasks a.maker) (sym e ∙ h)).1)

@@ -1,6 +1,5 @@
 -- What a start answers and what it leaves.
-use Rattle.std.specs.Prelude.{ℕ, ◌*◌, ◌≡◌, Bool, cond, not, ◌||◌, List, [], ltb, eqb, length, get_or, take, replicate}
-use Rattle.std.proofs.Math.Option.{Option, none}
+use Rattle.std.specs.Prelude.{ℕ, ◌*◌, ◌≡◌, Bool, cond, not, ◌||◌, List, [], ltb, eqb, length, get_or, take, replicate, Option, None}
 use Rattle.rules.specs.declared.Fairness.{Fairness}
 use Rattle.rules.specs.Sizes.{max_tasks, slot_count, width}
 use Rattle.rules.specs.Clock.{Clock, empty}
@@ -35,9 +34,9 @@ idle f closed stock n =
       closed = closed;
       stock = stock;
       queue = [];
-      reservation = none;
+      reservation = None;
       tasks = replicate n no_task;
-      slots = replicate slot_count none;
+      slots = replicate slot_count None;
     }
 
 pub record Idle (h : Head) (f : Fairness) (b : Bool) (k n : ℕ) : Type 0 where
@@ -46,7 +45,7 @@ pub record Idle (h : Head) (f : Fairness) (b : Bool) (k n : ℕ) : Type 0 where
   pub stock : h.stock ≡ k
   pub tasks : h.tasks ≡ n
   pub waiters : Holds h.waiters []
-  pub reservation : reservation_of h.reservation ≡ none
+  pub reservation : reservation_of h.reservation ≡ None
 
 -- as many words of clocks as before, of which the first n clocks are these
 pub record Heard (after before : List ℕ) (n : ℕ) (cs : List Clock) : Type 0 where

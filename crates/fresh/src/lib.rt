@@ -1,8 +1,7 @@
 // Fresh states: `new` with a maker and `const_new` with none; refusal 12. The caller lends all words, whatever stands in them.
 #![tactic(auto)]
 
-ghost use Rattle.std.specs.Prelude.{◌≡◌, true, false, ◌||◌, List, ◌++◌, ℕ, ◌+◌, ◌-◌, ◌*◌, ◌≤◌, ◌<◌, leb, length, take, drop};
-ghost use Rattle.std.proofs.Math.Option.{none, some};
+ghost use Rattle.std.specs.Prelude.{◌≡◌, true, false, ◌||◌, List, ◌++◌, ℕ, ◌+◌, ◌-◌, ◌*◌, ◌≤◌, ◌<◌, leb, length, take, drop, None, Some};
 ghost use Rattle.rules.specs.Sizes.{max_tasks, slot_count, width};
 ghost use Rattle.rules.specs.Clock.{empty};
 ghost use Rattle.rules.specs.Fresh.{fresh, refused_fresh};
@@ -131,7 +130,7 @@ fn start_clocks(starts: &[u32], n: usize, clocks: &mut [u32])
 // Not set up, and no taking yet.
 fn start_unmade(starts: &[u32], n: usize, last: &mut [u32], clocks: &mut [u32]) -> Batches
     requires { (n ≤ max_tasks) × (length starts.now ≡ n * n) × (length last.old ≡ width) × (length clocks.old ≡ max_tasks * width) }
-    ensures { (sizes rows : List ℕ) → Lent sizes rows → Begins result sizes rows last.new clocks.new n (fresh_clocks n n starts.now) none }
+    ensures { (sizes rows : List ℕ) → Lent sizes rows → Begins result sizes rows last.new clocks.new n (fresh_clocks n n starts.now) None }
 {
     clear(last);
     start_clocks(starts, n, clocks);
@@ -150,7 +149,7 @@ fn start_made(
     clocks: &mut [u32],
 ) -> Batches
     requires { (n ≤ max_tasks) × (length starts.now ≡ n * n) × (maker.0 < n) × (Lent sizes.old rows.old) × (length last.old ≡ width) × (length clocks.old ≡ max_tasks * width) }
-    ensures { Begins result sizes.new rows.new last.new clocks.new n (fresh_clocks n n starts.now) (fresh_batches stock (fresh_clocks n n starts.now) (some maker)) }
+    ensures { Begins result sizes.new rows.new last.new clocks.new n (fresh_clocks n n starts.now) (fresh_batches stock (fresh_clocks n n starts.now) (Some maker)) }
 {
     clear(last);
     start_clocks(starts, n, clocks);
@@ -199,7 +198,7 @@ fn begin_made(
     clocks: &mut [u32],
 ) -> Started
     requires { (n ≤ max_tasks) × (length starts.now ≡ n * n) × (maker.0 < n) × (Sized (record { slots = slots.old; tasks = tasks.old; sizes = sizes.old; rows = rows.old; last = last.old; makers = makers.old; clocks = clocks.old })) }
-    ensures { Gives result (record { slots = slots.new; tasks = tasks.new; sizes = sizes.new; rows = rows.new; last = last.new; makers = makers.new; clocks = clocks.new }) (quiet done (fresh (record { fairness = fairness; stock = stock; tasks = n; clocks = starts.now; maker = some maker }))) }
+    ensures { Gives result (record { slots = slots.new; tasks = tasks.new; sizes = sizes.new; rows = rows.new; last = last.new; makers = makers.new; clocks = clocks.new }) (quiet done (fresh (record { fairness = fairness; stock = stock; tasks = n; clocks = starts.now; maker = Some maker }))) }
 {
     let head = start_who(fairness, false, stock, n, slots, tasks);
     let batches = start_made(stock, starts, n as usize, maker, sizes, rows, last, clocks);
@@ -225,7 +224,7 @@ fn begin_unmade(
     clocks: &mut [u32],
 ) -> Started
     requires { (n ≤ max_tasks) × (length starts.now ≡ n * n) × (Sized (record { slots = slots.old; tasks = tasks.old; sizes = sizes.old; rows = rows.old; last = last.old; makers = makers.old; clocks = clocks.old })) }
-    ensures { Gives result (record { slots = slots.new; tasks = tasks.new; sizes = sizes.new; rows = rows.new; last = last.new; makers = makers.new; clocks = clocks.new }) (quiet done (fresh (record { fairness = fairness; stock = stock; tasks = n; clocks = starts.now; maker = none }))) }
+    ensures { Gives result (record { slots = slots.new; tasks = tasks.new; sizes = sizes.new; rows = rows.new; last = last.new; makers = makers.new; clocks = clocks.new }) (quiet done (fresh (record { fairness = fairness; stock = stock; tasks = n; clocks = starts.now; maker = None }))) }
 {
     let head = start_who(fairness, false, stock, n, slots, tasks);
     let batches = start_unmade(starts, n as usize, last, clocks);
@@ -251,7 +250,7 @@ pub fn new(
     makers: &mut [u32; 512],
     clocks: &mut [u32; 256],
 ) -> Started
-    ensures { Gives result (record { slots = slots.new; tasks = tasks.new; sizes = sizes.new; rows = rows.new; last = last.new; makers = makers.new; clocks = clocks.new }) (start (record { fairness = fairness; stock = stock; tasks = count; clocks = starts.now; maker = some maker })) }
+    ensures { Gives result (record { slots = slots.new; tasks = tasks.new; sizes = sizes.new; rows = rows.new; last = last.new; makers = makers.new; clocks = clocks.new }) (start (record { fairness = fairness; stock = stock; tasks = count; clocks = starts.now; maker = Some maker })) }
 {
     if is_refused(count, starts.len(), maker) {
         return refuse(slots, tasks, sizes, rows, last, makers, clocks);
@@ -275,7 +274,7 @@ pub fn const_new(
     makers: &mut [u32; 512],
     clocks: &mut [u32; 256],
 ) -> Started
-    ensures { Gives result (record { slots = slots.new; tasks = tasks.new; sizes = sizes.new; rows = rows.new; last = last.new; makers = makers.new; clocks = clocks.new }) (start (record { fairness = fairness; stock = stock; tasks = count; clocks = starts.now; maker = none })) }
+    ensures { Gives result (record { slots = slots.new; tasks = tasks.new; sizes = sizes.new; rows = rows.new; last = last.new; makers = makers.new; clocks = clocks.new }) (start (record { fairness = fairness; stock = stock; tasks = count; clocks = starts.now; maker = None })) }
 {
     if is_bad_start(count, starts.len()) {
         return refuse(slots, tasks, sizes, rows, last, makers, clocks);

@@ -1,8 +1,8 @@
 -- Other words beside a head, and another head beside its words: what is shown then.
+use Rattle.std.specs.Prelude.{Option, None}
 use Prim.Native.Nat.{ℕ, ◌≤◌}
 use mathlib.Core.Path.{◌≡◌, ap, ◌∙◌}
 use mathlib.Core.List.{List}
-use mathlib.Core.Option.{Option, none}
 use lib.ListN.{length}
 use Rattle.rules.specs.declared.Slot.{Slot}
 use Rattle.rules.specs.Sizes.{slot_count}
@@ -74,10 +74,10 @@ both_shaped h ss ts ss' ts' s l us k n m o = (tasks_shown h ss' ts (slots_shown 
 
 -- other tasks, and no reservation
 pub unreserved_shown : (h : Head) (ss ts : List ℕ) → Shaped h ss ts → (after : List ℕ) (us : List Task) → TasksShow h.tasks after ts us → length after ≡ length ts
-    → (v : Reservation) → reservation_of v ≡ none → Shows (reserved_as v h) ss after (with_reservation none (with_tasks us (plain_of h ss ts)))
+    → (v : Reservation) → reservation_of v ≡ None → Shows (reserved_as v h) ss after (with_reservation None (with_tasks us (plain_of h ss ts)))
 unreserved_shown h ss ts s after us k n v e =
     let t = tasks_shown h ss ts s after us k n in
     record {
       shaped = head-shaped h ss after t.shaped h.stock h.waiters v s.waiters;
-      view = ap (λ (o : Option Slot). with_reservation o (plain_of h ss after)) e ∙ ap (with_reservation none) t.view;
+      view = ap (λ (o : Option Slot). with_reservation o (plain_of h ss after)) e ∙ ap (with_reservation None) t.view;
     }

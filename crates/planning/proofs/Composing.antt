@@ -1,9 +1,9 @@
 -- Grounds one after another: the first that is given is said.
+use Rattle.std.specs.Prelude.{Some}
 use Prim.Native.Nat.{ℕ}
 use mathlib.Core.Path.{◌≡◌, refl, sym, ap, ◌∙◌}
 use mathlib.Core.Bool.{Bool, true, false, cond}
 use mathlib.Core.List.{List, [], ◌∷◌, ◌++◌}
-use mathlib.Core.Option.{some}
 use Rattle.rules.specs.declared.Step.{Step}
 use Rattle.rules.specs.Refusals.{Ground, ◌if◌, first}
 use Rattle.splitting.specs.Plain.{Plain}
@@ -18,10 +18,10 @@ use Rattle.planning.specs.Plans.{Says, actor_grounds, Planned}
 
 -- ---- one ground after another
 pub given_here : {n : ℕ} {b : Bool} {gs : List Ground} (w : Refusal) → number_of w ≡ n → b ≡ true → Says (Refused w) (n if b ∷ gs)
-given_here {n = n} {gs = gs} w e t = record { first = ap some e ∙ sym (ap (λ (k : Bool). cond k (some n) (first gs)) t) }
+given_here {n = n} {gs = gs} w e t = record { first = ap Some e ∙ sym (ap (λ (k : Bool). cond k (Some n) (first gs)) t) }
 
 pub not_here : {n : ℕ} {b : Bool} {gs : List Ground} (r : Check) → b ≡ false → Says r gs → Says r (n if b ∷ gs)
-not_here {n = n} {gs = gs} r f s = record { first = s.first ∙ sym (ap (λ (k : Bool). cond k (some n) (first gs)) f) }
+not_here {n = n} {gs = gs} r f s = record { first = s.first ∙ sym (ap (λ (k : Bool). cond k (Some n) (first gs)) f) }
 
 pub none_given : Says Accepted []
 none_given = record { first = refl }
@@ -31,7 +31,7 @@ pub first-after : (gs hs : List Ground) → first (gs ++ hs) ≡ or_else (first 
 first-after [] hs = refl
 first-after (g ∷ gs) hs = go g.given (first-after gs hs)
   where
-    go : (b : Bool) → first (gs ++ hs) ≡ or_else (first gs) (first hs) → cond b (some g.number) (first (gs ++ hs)) ≡ or_else (cond b (some g.number) (first gs)) (first hs)
+    go : (b : Bool) → first (gs ++ hs) ≡ or_else (first gs) (first hs) → cond b (Some g.number) (first (gs ++ hs)) ≡ or_else (cond b (Some g.number) (first gs)) (first hs)
     go true e = refl
     go false e = e
 

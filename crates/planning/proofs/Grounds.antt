@@ -1,18 +1,16 @@
 -- Each ground, from the tests that the code makes.
+use Rattle.std.specs.Prelude.{Option, None, Some, is_some, unwrap_or}
 use Prim.Native.Nat.{ℕ, ◌+◌, ◌-◌, ◌≤◌, ◌<◌}
 use native.Mathlib.Decide.{dec_lt}
 use native.Mathlib.Omega.{arith}
 use mathlib.Core.Path.{◌≡◌, refl, sym, ap, ◌∙◌}
 use mathlib.Core.Bool.{Bool, true, false, cond, not, ◌&&◌, ◌||◌, and-false}
 use mathlib.Core.List.{List, [], ◌∷◌}
-use mathlib.Core.Option
-use mathlib.Core.Option.{Option, none, some}
 use borrow.Author.Tests.{lt-ltb, le-ltb, le-leb, lt-leb, eq-eqb}
 use lib.Dec.{leb, ltb}
 use lib.ListN.{length, get_or}
 use Rattle.rules.specs.declared.Slot.{Slot}
 use Rattle.rules.specs.declared.Act.TheVariants.{Release}
-use Rattle.rules.specs.State.{is_some}
 use Rattle.rules.specs.Refusals.{◌if◌, first}
 use Rattle.rules.specs.Task.{is_runnable}
 use Rattle.rules.proofs.Bools.{not-zero}
@@ -44,10 +42,10 @@ pub runs_read : (n t : ℕ) (w : List ℕ) (a : Task) (b v : Bool) → task_seen
 runs_read n t w a b v e eb k = ap (λ (x : TaskRule). not (is_runnable x.state)) (sym e) ∙ ap not (sym eb) ∙ k
 
 -- 3 and 4, of the request that is read at the slot
-is_used : (r : Request) → is_some (cond r.used (some (request_of r)) none) ≡ r.used
+is_used : (r : Request) → is_some (cond r.used (Some (request_of r)) None) ≡ r.used
 is_used r = go r.used
   where
-    go : (b : Bool) → is_some (cond b (some (request_of r)) none) ≡ b
+    go : (b : Bool) → is_some (cond b (Some (request_of r)) None) ≡ b
     go true = refl
     go false = refl
 
@@ -55,11 +53,11 @@ module _ (r : Request) (o : Option RequestRule) (s : Stands r o) (v : Bool) wher
   pub used-read : not r.used ≡ v → not (is_some o) ≡ v
   used-read t = ap (λ (x : Option RequestRule). not (is_some x)) (sym s.used) ∙ ap not (is_used r) ∙ t
 
-  pub completed-read : r.completed ≡ v → (Option.get_or o no_request).completed ≡ v
+  pub completed-read : r.completed ≡ v → (unwrap_or o no_request).completed ≡ v
   completed-read t = ap (λ (q : RequestRule). q.completed) (sym s.view) ∙ t
 
   -- 5
-  pub nothing_read : (b closed : Bool) → b ≡ poll_asks_nothing (request_of r) closed → b ≡ v → poll_asks_nothing (Option.get_or o no_request) closed ≡ v
+  pub nothing_read : (b closed : Bool) → b ≡ poll_asks_nothing (request_of r) closed → b ≡ v → poll_asks_nothing (unwrap_or o no_request) closed ≡ v
   nothing_read b closed e t = ap (λ (q : RequestRule). poll_asks_nothing q closed) (sym s.view) ∙ sym e ∙ t
 
 -- 5: reserving, asking for some, holding, closed

@@ -1,9 +1,9 @@
 -- What is planned, from what each arm has decided.
+use Rattle.std.specs.Prelude.{None}
 use Prim.Native.Nat.{ℕ, ◌-◌}
 use mathlib.Core.Path.{◌≡◌, refl, ap, ◌∙◌}
 use mathlib.Core.Bool.{Bool, true, false}
 use mathlib.Core.List.{List, [], ◌∷◌}
-use mathlib.Core.Option.{none}
 use lib.Dec.{leb, ltb}
 use lib.ListN.{get_or}
 use Rattle.rules.specs.declared.Slot.{Slot}
@@ -70,9 +70,9 @@ unfolding choice_of
 release-planned h ss ts c n s = record { check = (s ss ts).first; back = refl; ticks = refl; choice = refl }
 
 -- ---- the request that is read at the slot: a poll, and a drop
-module _ (h : Head) (ss ts : List ℕ) (x : Slot) (r : Request) (e : Stands r (get_or (slots_of ss) x.0 none)) (c : Check) where
+module _ (h : Head) (ss ts : List ℕ) (x : Slot) (r : Request) (e : Stands r (get_or (slots_of ss) x.0 None)) (c : Check) where
   pub poll-planned : (q : Polling) (b : Bool) → ((ts : List ℕ) → q ≡ polling x (plain_of h ss ts)) → b ≡ takes_in q
-      → ((x : Slot) (ss ts : List ℕ) → Stands r (get_or (slots_of ss) x.0 none) → Says c (grounds (Poll x) (plain_of h ss ts)))
+      → ((x : Slot) (ss ts : List ℕ) → Stands r (get_or (slots_of ss) x.0 None) → Says c (grounds (Poll x) (plain_of h ss ts)))
       → Planned (record { check = c; back = 0; ticks = b; choice = Polls x r.ask.asked q }) (Poll x) (plain_of h ss ts)
   unfolding choice_of
   poll-planned q b eq eb s =
@@ -83,8 +83,8 @@ module _ (h : Head) (ss ts : List ℕ) (x : Slot) (r : Request) (e : Stands r (g
         choice = λ i. Polls x (e.view i).ask.asked (eq ts i);
       }
 
-  pub drop-planned : (d : Dropping) (n : ℕ) → ((ss ts : List ℕ) → Stands r (get_or (slots_of ss) x.0 none) → d ≡ dropping x (plain_of h ss ts)) → n ≡ returned d r.ask.asked
-      → ((x : Slot) (ss ts : List ℕ) → Stands r (get_or (slots_of ss) x.0 none) → n ≡ gives_back x (plain_of h ss ts) → Says c (grounds (Drop x) (plain_of h ss ts)))
+  pub drop-planned : (d : Dropping) (n : ℕ) → ((ss ts : List ℕ) → Stands r (get_or (slots_of ss) x.0 None) → d ≡ dropping x (plain_of h ss ts)) → n ≡ returned d r.ask.asked
+      → ((x : Slot) (ss ts : List ℕ) → Stands r (get_or (slots_of ss) x.0 None) → n ≡ gives_back x (plain_of h ss ts) → Says c (grounds (Drop x) (plain_of h ss ts)))
       → Planned (record { check = c; back = n; ticks = ltb 0 n; choice = Drops x n d }) (Drop x) (plain_of h ss ts)
   unfolding choice_of
   drop-planned d n ed en s =

@@ -3,8 +3,7 @@
 // last, belong to the clocks.
 #![tactic(auto)]
 
-ghost use Rattle.std.specs.Prelude.{◌≡◌, true, false, ◌&&◌, List, [], ◌∷◌, ℕ, ◌+◌, ◌*◌, ◌≤◌, leb, ltb, length, get_or};
-ghost use Rattle.std.proofs.Math.Option.{none};
+ghost use Rattle.std.specs.Prelude.{◌≡◌, true, false, ◌&&◌, List, [], ◌∷◌, ℕ, ◌+◌, ◌*◌, ◌≤◌, leb, ltb, length, get_or, None};
 ghost use Rattle.rules.specs.declared.Slot.{Slot as SlotRule};
 ghost use Rattle.rules.specs.declared.Act.TheVariants.{AcquireReserving, Upgrade, Poll, Try, TryUpgrade, Release, Drop};
 ghost use Rattle.rules.specs.Sizes.{largest, slot_count, max_tasks};
@@ -130,7 +129,7 @@ fn check_upgrade(slot: usize, held: u32, wanted: u32) -> Check
 
 // A poll of the request that was read at the slot.
 fn check_poll(h: Head, r: Request) -> Check
-    ensures { (x : SlotRule) (slots tasks : List ℕ) → Stands r (get_or (slots_of slots) x.0 none) → Says result (grounds (Poll x) (plain_of h slots tasks)) }
+    ensures { (x : SlotRule) (slots tasks : List ℕ) → Stands r (get_or (slots_of slots) x.0 None) → Says result (grounds (Poll x) (plain_of h slots tasks)) }
 {
     if !r.used {
         return Check::Refused(Refusal::NoSuchRequest);
@@ -173,7 +172,7 @@ fn check_release(h: Head, n: u32) -> Check
 
 // A drop of the request that was read at the slot, by what it gives back.
 fn check_drop(h: Head, r: Request, back: u32) -> Check
-    ensures { (x : SlotRule) (slots tasks : List ℕ) → Stands r (get_or (slots_of slots) x.0 none) → back ≡ gives_back x (plain_of h slots tasks) → Says result (grounds (Drop x) (plain_of h slots tasks)) }
+    ensures { (x : SlotRule) (slots tasks : List ℕ) → Stands r (get_or (slots_of slots) x.0 None) → back ≡ gives_back x (plain_of h slots tasks) → Says result (grounds (Drop x) (plain_of h slots tasks)) }
 {
     if !r.used {
         return Check::Refused(Refusal::NoSuchRequest);

@@ -1,9 +1,9 @@
 -- Each question, from the tests that the code makes.
+use Rattle.std.specs.Prelude.{Option, None, Some}
 use Prim.Native.Nat.{ℕ}
 use mathlib.Core.Path.{◌≡◌, sym, ap, ◌∙◌}
 use mathlib.Core.Bool.{Bool, true, false, cond, not, ◌&&◌, ◌||◌}
 use mathlib.Core.List.{List}
-use mathlib.Core.Option.{Option, none, some}
 use lib.Dec.{leb}
 use lib.ListN.{get_or}
 use Rattle.rules.specs.declared.TaskId.{TaskId}
@@ -33,17 +33,17 @@ use Rattle.planning.proofs.Composing.{first-after}
 use Rattle.points.specs.Told.{answer}
 
 -- ---- what comes first
-pub told_here : (n : ℕ) (b c : Bool) (o : Option ℕ) → b ≡ true → refuses n ≡ tell (cond b (some n) o) c
+pub told_here : (n : ℕ) (b c : Bool) (o : Option ℕ) → b ≡ true → refuses n ≡ tell (cond b (Some n) o) c
 told_here n b c o e = rw e
 
-pub told-on : (n : ℕ) (b c : Bool) (o : Option ℕ) (t : RuleTold) → b ≡ false → t ≡ tell o c → t ≡ tell (cond b (some n) o) c
+pub told-on : (n : ℕ) (b c : Bool) (o : Option ℕ) (t : RuleTold) → b ≡ false → t ≡ tell o c → t ≡ tell (cond b (Some n) o) c
 told-on n b c o t e f = rw e f
 
-pub told-point : (b c : Bool) → b ≡ c → tells b ≡ tell none c
+pub told-point : (b c : Bool) → b ≡ c → tells b ≡ tell None c
 told-point b c e = ap tells e
 
 -- ---- the request that is read at the slot
-module _ (h : Head) (x : Slot) (r : Request) (ss ts : List ℕ) (e : Stands r (get_or (slots_of ss) x.0 none)) where
+module _ (h : Head) (x : Slot) (r : Request) (ss ts : List ℕ) (e : Stands r (get_or (slots_of ss) x.0 None)) where
   -- a poll
   polls : RequestRule → Bool → ℕ → Bool
   polls q f n = not q.polled && (f || q.holding || h.closed || leb q.ask.least n)
@@ -82,7 +82,7 @@ module _ (h : Head) (x : Slot) (r : Request) (ss ts : List ℕ) (e : Stands r (g
   pub else_reserved : (b : Bool) → r.queued ≡ false → b ≡ is_the x (reservation_of h.reservation) → b ≡ waits x (plain_of h ss ts)
   else_reserved b q eb = eb ∙ sym (ap (λ (k : RequestRule). k.queued || is_the x (reservation_of h.reservation)) (sym e.view) ∙ rw q)
 
-  module _ (w : Bool) (ew : (ss ts : List ℕ) → Stands r (get_or (slots_of ss) x.0 none) → w ≡ waits x (plain_of h ss ts)) where
+  module _ (w : Bool) (ew : (ss ts : List ℕ) → Stands r (get_or (slots_of ss) x.0 None) → w ≡ waits x (plain_of h ss ts)) where
     pub waits-first : w ≡ true → false ≡ point (BeforeDropAgain x) (plain_of h ss ts)
     unfolding point
     waits-first t = rw (← ew ss ts e, t)

@@ -1,8 +1,7 @@
 // Whether a scheduling point comes before a step: questions that change nothing, in the place of the source's `thread::switch`.
 #![tactic(auto)]
 
-ghost use Rattle.std.specs.Prelude.{◌≡◌, List, ℕ, ◌*◌, length, get_or};
-ghost use Rattle.std.proofs.Math.Option.{none};
+ghost use Rattle.std.specs.Prelude.{◌≡◌, List, ℕ, ◌*◌, length, get_or, None};
 ghost use Rattle.rules.specs.declared.Slot.{Slot as SlotRule};
 ghost use Rattle.rules.specs.declared.Question.TheVariants.{BeforeTryUpgrade, BeforePoll, BeforeDrop, BeforeDropAgain};
 ghost use Rattle.rules.specs.Sizes.{slot_count};
@@ -31,7 +30,7 @@ pub enum Told {
 // ---- points, of the request that was read at the slot
 // A poll: when never polled, if strictly fair, holding, closed, or available at least the least.
 fn before_poll(h: Head, r: Request) -> bool
-    ensures { (x : SlotRule) (slots tasks : List ℕ) → Stands r (get_or (slots_of slots) x.0 none) → result ≡ point_of (BeforePoll x) (plain_of h slots tasks) }
+    ensures { (x : SlotRule) (slots tasks : List ℕ) → Stands r (get_or (slots_of slots) x.0 None) → result ≡ point_of (BeforePoll x) (plain_of h slots tasks) }
 {
     if r.polled {
         return false;
@@ -51,7 +50,7 @@ fn before_poll(h: Head, r: Request) -> bool
 
 // A drop's first question: queued or having the reservation.
 fn waits(h: Head, x: Slot, r: Request) -> bool
-    ensures { (slots tasks : List ℕ) → Stands r (get_or (slots_of slots) x.0 none) → result ≡ waits_of x (plain_of h slots tasks) }
+    ensures { (slots tasks : List ℕ) → Stands r (get_or (slots_of slots) x.0 None) → result ≡ waits_of x (plain_of h slots tasks) }
 {
     if r.queued {
         return true;
@@ -62,7 +61,7 @@ fn waits(h: Head, x: Slot, r: Request) -> bool
 
 // A drop's second question: neither of these, but holding and not completed.
 fn before_drop_again(h: Head, x: Slot, r: Request) -> bool
-    ensures { (slots tasks : List ℕ) → Stands r (get_or (slots_of slots) x.0 none) → result ≡ point_of (BeforeDropAgain x) (plain_of h slots tasks) }
+    ensures { (slots tasks : List ℕ) → Stands r (get_or (slots_of slots) x.0 None) → result ≡ point_of (BeforeDropAgain x) (plain_of h slots tasks) }
 {
     if waits(h, x, r) {
         return false;

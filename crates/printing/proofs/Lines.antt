@@ -1,14 +1,13 @@
 -- The whole line, and that it is the rules' own.
+use Rattle.std.specs.Prelude.{None, Some, is_some}
 use Prim.Native.Nat.{ℕ, ◌+◌, ◌≤◌, ◌<◌}
 use native.Mathlib.Omega.{arith}
 use mathlib.Core.Path.{◌≡◌, refl, ◌∙◌}
 use mathlib.Core.Bool.{Bool, true, false, cond}
 use mathlib.Core.List.{List, [], ◌∷◌, append_assoc}
-use mathlib.Core.Option.{none, some}
 use lib.ListN.{length, length-take}
 use Rattle.rules.specs.declared.Grant.{Grant}
 use Rattle.rules.specs.declared.Slot.{Slot}
-use Rattle.rules.specs.State.{is_some}
 use Rattle.rules.specs.Steps.{Answer, Outcome}
 use Rattle.rules.specs.Text.{space, line_feed, joined_by}
 use Rattle.rules.specs.Script.{answer_text, grants_text, outcome_text}
@@ -71,7 +70,7 @@ unfolding outcome_text
 outcome-line o c h = rw (h.available, h.stock, h.closed, h.queued)
 
 -- What a head shows: no slot and no task.
-made-reserved : (b : Bool) (x : Slot) (n : ℕ) → cond b 0 n ≡ cond (is_some (cond b (some x) none)) 0 n
+made-reserved : (b : Bool) (x : Slot) (n : ℕ) → cond b 0 n ≡ cond (is_some (cond b (Some x) None)) 0 n
 made-reserved true x n = refl
 made-reserved false x n = refl
 

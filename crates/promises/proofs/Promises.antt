@@ -1,9 +1,9 @@
 -- The one theorem: whatever was called after an accepted start, if each call met its contract then all six promises hold.
+use Rattle.std.specs.Prelude.{Some}
 use Prim.Native.Nat.{◌+◌}
 use mathlib.Core.Path.{◌≡◌, sym, ap, subst, ◌∙◌}
 use mathlib.Core.Bool.{false}
 use mathlib.Core.List.{List, map}
-use mathlib.Core.Option.{some}
 use Rattle.rules.specs.State.{Batch, State, stock}
 use Rattle.rules.specs.Fresh.{Start, fresh, refuses12}
 use Rattle.rules.specs.Runs.{Said, run}
@@ -47,7 +47,7 @@ module _ (a : Start) (r : Started) (w : Words) (b : Begins a r w) (cs : List Cal
             ∙ ap (λ (xs : List Said). stock (run (steps_of cs) (fresh a)).state + granted_in xs) says
             ∙ conservation a allowed (steps_of cs);
         batches =
-            subst (λ (s : State). (bs : List Batch) → s.permits.batches ≡ some bs → AddUp bs (stock s)) (sym now) (batches a allowed (steps_of cs));
+            subst (λ (s : State). (bs : List Batch) → s.permits.batches ≡ Some bs → AddUp bs (stock s)) (sym now) (batches a allowed (steps_of cs));
         nobody_stranded = λ f. subst NobodyStranded (sym now) (nobody_stranded a allowed (steps_of cs) f);
         passed_over = passed_over a allowed (steps_of cs);
         watched = watched-grants (steps_of cs) (fresh a) ∙ ap (λ (xs : List Said). map (λ (o : Said). o.grants) xs) (sym says);

@@ -1,10 +1,10 @@
 -- Useless builds are caught: in each of these runs every result that meets the contract of its call prints this line and grants these counts, so
 -- that no other answer does. The must-fail edits put a wrong answer in the place of a right one, two for each call.
+use Rattle.std.specs.Prelude.{Some}
 use Prim.Native.Nat.{ℕ}
 use Prim.Native.String.{String}
 use mathlib.Core.Path.{◌≡◌, refl, ap, ◌∙◌}
 use mathlib.Core.List.{List, [], ◌∷◌, map}
-use mathlib.Core.Option.{some}
 use lib.ListN.{replicate}
 use Rattle.rules.specs.declared.TaskId.{TaskId}
 use Rattle.rules.specs.declared.Slot.{Slot}
@@ -90,7 +90,7 @@ abbrev pub s1 : Slot
 s1 = record { 0 = 1 }
 
 abbrev start_of_case : Case → Start
-start_of_case c = start_with c.fairness c.stock (some t0) 2 (replicate 4 0)
+start_of_case c = start_with c.fairness c.stock (Some t0) 2 (replicate 4 0)
 
 -- a run for each call
 unfoldable pub cases : List Case

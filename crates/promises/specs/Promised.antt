@@ -1,6 +1,5 @@
 -- Demand 3, of the calls themselves: what holds after calls `cs` that began with `h`, made fresh as `a` says.
-use Rattle.std.specs.Prelude.{◌+◌, ◌≡◌, List, map}
-use Rattle.std.proofs.Math.Option.{some}
+use Rattle.std.specs.Prelude.{◌+◌, ◌≡◌, List, map, Some}
 use Rattle.rules.specs.declared.Fairness.TheVariants.{StrictlyFair}
 use Rattle.rules.specs.State.{Batch, stock}
 use Rattle.rules.specs.Fresh.{Start, fresh}
@@ -18,7 +17,7 @@ pub record Promised (a : Start) (h : Held) (cs : List Call) : Type 0 where
   pub conservation :
       stock (state_of (left h cs)) + granted_in (said_by cs) ≡ a.stock + (released_in (steps_of cs) (fresh a) + given_up_in (steps_of cs) (fresh a))
   -- 2. Batches: once set up they add up to the stock; never more than 64; none of 0.
-  pub batches : (bs : List Batch) → (state_of (left h cs)).permits.batches ≡ some bs → AddUp bs (stock (state_of (left h cs)))
+  pub batches : (bs : List Batch) → (state_of (left h cs)).permits.batches ≡ Some bs → AddUp bs (stock (state_of (left h cs)))
   -- 3. Nobody is stranded: on a strictly fair semaphore each queued request up to and including the first that is not Bypassable asks for more
   -- than the stock.
   pub nobody_stranded : a.fairness ≡ StrictlyFair → NobodyStranded (state_of (left h cs))

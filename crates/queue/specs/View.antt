@@ -1,6 +1,5 @@
 -- What the queue and the reservation stand for, and what is said of them.
-use Rattle.std.specs.Prelude.{ℕ, suc, ◌+◌, ◌≤◌, ◌≡◌, cond, List, [], ◌∷◌, ◌++◌, take, drop}
-use Rattle.std.proofs.Math.Option.{Option, none, some}
+use Rattle.std.specs.Prelude.{ℕ, suc, ◌+◌, ◌≤◌, ◌≡◌, cond, List, [], ◌∷◌, ◌++◌, take, drop, Option, None, Some}
 use Rattle.rules.specs.declared.Slot.{Slot}
 use Rattle.rules.specs.State.{same_slot}
 use Rattle.queue.specs.declared.Waiters.{Waiters}
@@ -12,7 +11,7 @@ waiters_of w = take w.len w.slots
 
 -- the slot that has the reservation, or none
 abbrev pub reservation_of : Reservation → Option Slot
-reservation_of r = cond r.made (some r.slot) none
+reservation_of r = cond r.made (Some r.slot) None
 
 -- what is read where no slot stands
 abbrev pub slot0 : Slot

@@ -2,8 +2,7 @@
 // `Option<Arc<Waiter>>`.
 #![tactic(auto)]
 
-ghost use Rattle.std.specs.Prelude.{◌≡◌, [], ◌∷◌, ◌++◌, ◌+◌, ◌-◌, ◌≤◌, ◌<◌, length, get_or, take, drop};
-ghost use Rattle.std.proofs.Math.Option.{none, some};
+ghost use Rattle.std.specs.Prelude.{◌≡◌, [], ◌∷◌, ◌++◌, ◌+◌, ◌-◌, ◌≤◌, ◌<◌, length, get_or, take, drop, None, Some};
 ghost use Rattle.rules.specs.State.{is_the};
 ghost use Rattle.rules.specs.Scan.{without};
 ghost use Rattle.queue.specs.View.{waiters_of, slot0, index_of, remove_at, Holds, reservation_of};
@@ -25,7 +24,7 @@ pub struct Reservation {
 
 impl Reservation {
     pub fn none() -> Reservation
-        ensures { reservation_of result ≡ none }
+        ensures { reservation_of result ≡ None }
     {
         Reservation {
             made: false,
@@ -34,7 +33,7 @@ impl Reservation {
     }
 
     pub fn of(x: Slot) -> Reservation
-        ensures { reservation_of result ≡ some x }
+        ensures { reservation_of result ≡ Some x }
     {
         Reservation {
             made: true,

@@ -1,10 +1,10 @@
 -- Starting clocks read entry by entry.
+use Rattle.std.specs.Prelude.{Option, None, Some}
 use Prim.Native.Nat.{ℕ, ◌+◌, ◌*◌, ◌^◌, ◌≤◌, ◌<◌}
 use native.Mathlib.Numerals.{add-one}
 use native.Mathlib.Omega.{arith}
 use mathlib.Core.Path.{◌≡◌, refl, ap, sym, subst, ◌∙◌}
 use mathlib.Core.List.{List, [], ◌∷◌, ◌++◌}
-use mathlib.Core.Option.{Option, none, some}
 use lib.ListN.{length, take, drop, set, length-set, length-append, length-drop}
 use lib.Seq.{append_snoc, set_out, take-suc-set}
 use Rattle.rules.specs.Text.{space, fields}
@@ -22,7 +22,7 @@ not-kept xs i x h = sym (set_out xs i x h)
 -- The numbers of a line from one place on, read up to another.
 pub record Along (line : List ℕ) (from : ℕ) (starts : List ℕ) (at n : ℕ) : Type 0 where
   pub numbers : List ℕ
-  pub left : numbers_of (fields (drop from line)) ≡ (numbers_of (fields (drop at line)) >>= λ ns. some (numbers ++ ns))
+  pub left : numbers_of (fields (drop from line)) ≡ (numbers_of (fields (drop at line)) >>= λ ns. Some (numbers ++ ns))
   pub count : n ≡ length numbers
   pub kept : n ≤ 256 → take n starts ≡ numbers
   pub within : at ≤ length line
@@ -41,20 +41,20 @@ along_none line from starts h l =
       sized = l;
     }
   where
-    whole : (o : Option (List ℕ)) → o ≡ (o >>= λ ns. some ([] ++ ns))
-    whole none = refl
-    whole (some ns) = refl
+    whole : (o : Option (List ℕ)) → o ≡ (o >>= λ ns. Some ([] ++ ns))
+    whole None = refl
+    whole (Some ns) = refl
 
 module _ (line : List ℕ) (at : ℕ) (r : Reading) (read : ReadAt line at r) where
-  last-read : (x : ℕ) → r ≡ Last x → numbers_of (fields (drop at line)) ≡ some (x ∷ [])
+  last-read : (x : ℕ) → r ≡ Last x → numbers_of (fields (drop at line)) ≡ Some (x ∷ [])
   unfolding numbers_of
   last-read x e = let p = subst (ReadAt line at) e read in rw (p.behind, p.says)
 
-  then_read : (x next : ℕ) → r ≡ Then x next → numbers_of (fields (drop at line)) ≡ (numbers_of (fields (drop next line)) >>= λ ns. some (x ∷ ns))
+  then_read : (x next : ℕ) → r ≡ Then x next → numbers_of (fields (drop at line)) ≡ (numbers_of (fields (drop next line)) >>= λ ns. Some (x ∷ ns))
   unfolding numbers_of
   then_read x next e = let p = subst (ReadAt line at) e read in rw (p.behind.0, p.says)
 
-  none_read : r ≡ Other → numbers_of (fields (drop at line)) ≡ none
+  none_read : r ≡ Other → numbers_of (fields (drop at line)) ≡ None
   unfolding numbers_of
   none_read e = let p = subst (ReadAt line at) e read in rw (parts_front space (drop at line), p.says)
 
@@ -62,7 +62,7 @@ module _ (line : List ℕ) (at : ℕ) (r : Reading) (read : ReadAt line at r) wh
   less_left x next e = let p = subst (ReadAt line at) e read in rw p.behind.0 (omega arith)
 
   module _ (from : ℕ) (starts : List ℕ) (n : ℕ) (a : Along line from starts at n) where
-    pub along_bad : r ≡ Other → numbers_of (fields (drop from line)) ≡ none
+    pub along_bad : r ≡ Other → numbers_of (fields (drop from line)) ≡ None
     along_bad e = a.left ∙ rw (none_read e)
 
     -- a number more is counted
@@ -95,6 +95,6 @@ module _ (line : List ℕ) (at : ℕ) (r : Reading) (read : ReadAt line at r) wh
             sized = sized-still;
           }
         where
-          regroup : (l : Option (List ℕ)) → ((l >>= λ ns. some (x ∷ ns)) >>= λ ms. some (a.numbers ++ ms)) ≡ (l >>= λ ms. some (a.numbers ++ x ∷ [] ++ ms))
-          regroup none = refl
-          regroup (some ms) = ap some (sym (append_snoc a.numbers x ms))
+          regroup : (l : Option (List ℕ)) → ((l >>= λ ns. Some (x ∷ ns)) >>= λ ms. Some (a.numbers ++ ms)) ≡ (l >>= λ ms. Some (a.numbers ++ x ∷ [] ++ ms))
+          regroup None = refl
+          regroup (Some ms) = ap Some (sym (append_snoc a.numbers x ms))

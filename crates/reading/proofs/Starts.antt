@@ -1,4 +1,6 @@
 -- The start that a first line says, with the clocks that were read.
+use Rattle.std.specs.Prelude.{Option, None, Some}
+use Rattle.std.proofs.lemmas.Option.{same_Some}
 use Prim.Native.Nat.{ℕ, ◌+◌, ◌*◌, ◌-◌, ◌^◌, ◌≤◌, ◌<◌}
 use native.Mathlib.Nat.{mul-le-mul}
 use native.Mathlib.Decide.{dec_lt}
@@ -6,7 +8,6 @@ use native.Mathlib.Omega.{arith}
 use mathlib.Core.Path.{◌≡◌, refl, ap, sym, subst, ◌∙◌}
 use mathlib.Core.Bool.{Bool, true, false}
 use mathlib.Core.List.{List, [], ◌∷◌}
-use mathlib.Core.Option.{Option, none, some, some-injective}
 use lib.Dec.{eqb}
 use lib.ListN.{length, take, drop}
 use lib.Seq.{length-take-le}
@@ -71,12 +72,12 @@ same_begun a cs starts kept =
 pub same-spawned : (a : First) (starts : List ℕ) → starts ≡ spawned_in a.tasks → start (start_read a starts) ≡ start (start_said a (spawned a.tasks))
 same-spawned a starts e = same_begun a (spawned a.tasks) starts (λ h. rw e (spawned_taken a.tasks h))
 
-reads_spawned : (a : First) (starts : List ℕ) → starts ≡ spawned_in a.tasks → ReadsStart (some (start_said a (spawned a.tasks))) a starts
+reads_spawned : (a : First) (starts : List ℕ) → starts ≡ spawned_in a.tasks → ReadsStart (Some (start_said a (spawned a.tasks))) a starts
 reads_spawned a starts e =
     record { start = start_said a (spawned a.tasks); says = refl; same = same-spawned a starts e; sized = spawned-sized a.tasks starts e }
 
 -- Clocks that were given: as many entries as the tasks have, or the line says nothing.
-all_given : (k : ℕ) (cs : List ℕ) (t : Bool) → 0 < length cs → eqb (length cs) (k * k) ≡ t → clocks_said k cs ≡ elim t [ true ↦ some cs | false ↦ none ]
+all_given : (k : ℕ) (cs : List ℕ) (t : Bool) → 0 < length cs → eqb (length cs) (k * k) ≡ t → clocks_said k cs ≡ elim t [ true ↦ Some cs | false ↦ None ]
 all_given k [] t h e = absurd (omega arith)
 all_given k (c ∷ cs) true h e = rw e
 all_given k (c ∷ cs) false h e = rw e
@@ -86,10 +87,10 @@ module _ (a : First) (line : List ℕ) (at next : ℕ) (r : Clocks) (starts : Li
     read : Reads (numbers_of (fields (drop at line))) n starts
     read = subst (λ (x : Clocks). ClocksTo line at x starts) q is
 
-    told : (t : Bool) → t ≡ eqb n (a.tasks * a.tasks) → opened line (Given a at) ≡ elim t [ true ↦ some (start_said a read.numbers) | false ↦ none ]
+    told : (t : Bool) → t ≡ eqb n (a.tasks * a.tasks) → opened line (Given a at) ≡ elim t [ true ↦ Some (start_said a read.numbers) | false ↦ None ]
     told t e = rw (read.says, all_given a.tasks read.numbers t (omega (arith, read.some_there, read.count)) (ap (λ (m : ℕ). eqb m (a.tasks * a.tasks)) (sym read.count) ∙ sym e)) (by_test t)
       where
-        by_test : (t : Bool) → (elim t [ true ↦ some read.numbers | false ↦ none ] >>= λ cs. some (start_said a cs)) ≡ elim t [ true ↦ some (start_said a read.numbers) | false ↦ none ]
+        by_test : (t : Bool) → (elim t [ true ↦ Some read.numbers | false ↦ None ] >>= λ cs. Some (start_said a cs)) ≡ elim t [ true ↦ Some (start_said a read.numbers) | false ↦ None ]
         by_test true = refl
         by_test false = refl
 
@@ -113,13 +114,13 @@ module _ (a : First) (line : List ℕ) (at next : ℕ) (r : Clocks) (starts : Li
 
 -- What is read names the maker within a byte, which makes no difference.
 named : (o : Option Start) (next : ℕ) (res : FirstLine) (starts : List ℕ) → SaysStart (start_within o) next res starts → SaysStart o next res starts
-named none next (Is first next') starts s = absurd (said-not none s.1.start s.1.says refl)
-named (some a) next (Is first next') starts s =
+named None next (Is first next') starts s = absurd (said-not None s.1.start s.1.says refl)
+named (Some a) next (Is first next') starts s =
     let r = s.1 in
-    let q = some-injective (start_named a) r.start r.says in
+    let q = same_Some (start_named a) r.start r.says in
     (s.0, record { start = a; says = refl; same = r.same ∙ ap start (sym q) ∙ start-within a; sized = r.sized })
-named none next Bad starts s = refl
-named (some a) next Bad starts s = absurd (said-not (some (start_named a)) (start_named a) refl s)
+named None next Bad starts s = refl
+named (Some a) next Bad starts s = absurd (said-not (Some (start_named a)) (start_named a) refl s)
 named o next Nothing starts s = s
 
 -- What a line says, by what was opened.

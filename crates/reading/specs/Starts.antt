@@ -1,6 +1,5 @@
 -- What a first line was read to say.
-use Rattle.std.specs.Prelude.{ℕ, ◌*◌, ◌≤◌, ◌<◌, ◌≡◌, cond, List, [], ◌∷◌, ltb, length, take, drop}
-use Rattle.std.proofs.Math.Option.{Option, none, some}
+use Rattle.std.specs.Prelude.{ℕ, ◌*◌, ◌≤◌, ◌<◌, ◌≡◌, cond, List, [], ◌∷◌, ltb, length, take, drop, Option, None, Some}
 use Rattle.rules.specs.Sizes.{max_tasks}
 use Rattle.rules.specs.Fresh.{Start}
 use Rattle.rules.specs.Runs.{start as begun}
@@ -25,13 +24,13 @@ start_read a starts = start_said a (take (entries_of a.tasks) starts)
 -- A start was read: what is begun with it, 12 or a fresh state, is what is begun with the one that was said, o.
 pub record ReadsStart (o : Option Start) (first : First) (starts : List ℕ) : Type 0 where
   pub start : Start
-  pub says : o ≡ some start
+  pub says : o ≡ Some start
   pub same : begun (start_read first starts) ≡ begun start
   pub sized : length starts ≡ 256
 
 abbrev pub SaysStart : Option Start → ℕ → FirstLine → List ℕ → Type 0
 SaysStart o next (Is first next') starts = (next' ≡ next) × ReadsStart o first starts
-SaysStart o next Bad starts = o ≡ none
+SaysStart o next Bad starts = o ≡ None
 SaysStart o next Nothing starts = ⊥
 
 -- The first line of a script, where it has one.
@@ -46,7 +45,7 @@ pub record BadAt (script : List ℕ) : Type 0 where
   pub line : Line
   pub behind : List Line
   pub shows : lines script ≡ line ∷ behind
-  pub says : said start_of line ≡ none
+  pub says : said start_of line ≡ None
   pub some_bytes : 0 < length script
 
 abbrev pub SaysFirst : List ℕ → FirstLine → List ℕ → Type 0
@@ -57,7 +56,7 @@ SaysFirst script Nothing starts = lines script ≡ []
 -- The numbers of some fields were read, n of them, and those for which there is room stand in words.
 pub record Reads (o : Option (List ℕ)) (n : ℕ) (starts : List ℕ) : Type 0 where
   pub numbers : List ℕ
-  pub says : o ≡ some numbers
+  pub says : o ≡ Some numbers
   pub count : n ≡ length numbers
   pub some_there : 0 < n
   pub kept : n ≤ 256 → take n starts ≡ numbers
@@ -65,4 +64,4 @@ pub record Reads (o : Option (List ℕ)) (n : ℕ) (starts : List ℕ) : Type 0 
 
 abbrev pub ClocksTo : List ℕ → ℕ → Clocks → List ℕ → Type 0
 ClocksTo line from (Are n) starts = Reads (numbers_of (fields (drop from line))) n starts
-ClocksTo line from Unread starts = numbers_of (fields (drop from line)) ≡ none
+ClocksTo line from Unread starts = numbers_of (fields (drop from line)) ≡ None

@@ -1,6 +1,5 @@
 -- What a task's record and a request's stand for, without clocks; and what a step does to a request's marks.
-use Rattle.std.specs.Prelude.{◌≡◌, true, false, cond}
-use Rattle.std.proofs.Math.Option.{Option, none, some, get_or}
+use Rattle.std.specs.Prelude.{◌≡◌, true, false, cond, Option, None, Some, unwrap_or}
 use Rattle.splitting.specs.Plain.{Task as TaskRule, Request as RequestRule, no_request, queued_as, held, polled_granted, polled_closed, polled_pending}
 use Rattle.records.specs.declared.Task.{Task}
 use Rattle.records.specs.declared.Request.{Request}
@@ -15,12 +14,12 @@ request_of r = record { ask = r.ask; task = record { 0 = r.task }; queued = r.qu
 
 -- a place that is not in use is free
 abbrev pub seen : Request → Option RequestRule
-seen r = cond r.used (some (request_of r)) none
+seen r = cond r.used (Some (request_of r)) None
 
 -- what is read at a slot: its request, or where none stands the one of no permits
 pub record Stands (r : Request) (o : Option RequestRule) : Type 0 where
   pub used : seen r ≡ o
-  pub view : request_of r ≡ get_or o no_request
+  pub view : request_of r ≡ unwrap_or o no_request
 
 -- a request that is changed, in use as before
 pub record Changed (f : RequestRule → RequestRule) (r q : Request) : Type 0 where

@@ -2,8 +2,7 @@
 // `Acquire`; how each is changed.
 #![tactic(auto)]
 
-ghost use Rattle.std.specs.Prelude.{◌≡◌, false};
-ghost use Rattle.std.proofs.Math.Option.{none, some};
+ghost use Rattle.std.specs.Prelude.{◌≡◌, false, None, Some};
 ghost use Rattle.rules.specs.Task.{is_runnable, is_finished, roused};
 ghost use Rattle.rules.specs.Request.{is_bypassable, is_front, plain_ask, reserving_ask};
 ghost use Rattle.rules.specs.Steps.{upgrade_ask};
@@ -215,7 +214,7 @@ pub enum Marking {
 impl Request {
     // An unpolled request of the task.
     pub fn new(ask: Ask, task: TaskId) -> Request
-        ensures { seen result ≡ some (unpolled ask task) }
+        ensures { seen result ≡ Some (unpolled ask task) }
     {
         Request {
             used: true,
@@ -230,7 +229,7 @@ impl Request {
 
     // What stands where no request does.
     pub fn none() -> Request
-        ensures { Stands result none }
+        ensures { Stands result None }
     {
         let ask = Ask {
             asked: 0,

@@ -1,8 +1,8 @@
 -- Document 01's words and numbers tell apart what the code replies: no two refusals, checks or replies stand for the same.
+use Rattle.std.specs.Prelude.{Option, None, Some}
 use Prim.Native.Nat.{ℕ}
 use mathlib.Core.Path.{◌≡◌, refl, sym, ap, ◌∙◌}
 use mathlib.Core.Bool.{cond}
-use mathlib.Core.Option.{Option, none, some}
 use lib.Dec.{eqb}
 use Rattle.rules.specs.Steps.{Answer}
 use Rattle.rules.specs.Steps.Answer.{done, granted, pending, closed, none_left, made, refused}
@@ -50,8 +50,8 @@ named-number Broken = refl
 
 -- the check that gives a number
 abbrev checked : Option ℕ → Check
-checked none = Accepted
-checked (some n) = NotAccepted (named n)
+checked None = Accepted
+checked (Some n) = NotAccepted (named n)
 
 pub same_check : (c d : Check) → given c ≡ given d → c ≡ d
 same_check = apart given checked back

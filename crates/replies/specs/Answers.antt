@@ -1,6 +1,5 @@
 -- Document 01's word and number for each reply.
-use Rattle.std.specs.Prelude.{ℕ}
-use Rattle.std.proofs.Math.Option.{Option, none, some}
+use Rattle.std.specs.Prelude.{ℕ, Option, None, Some}
 use Rattle.rules.specs.Steps.{Answer}
 use Rattle.rules.specs.Steps.Answer.{done, granted, pending, closed, none_left, made, refused}
 use Rattle.replies.specs.declared.Refusal.{Refusal}
@@ -27,8 +26,8 @@ number_of Broken = 14
 
 -- the number that is given, if one is
 abbrev pub given : Check → Option ℕ
-given Accepted = none
-given (NotAccepted r) = some (number_of r)
+given Accepted = None
+given (NotAccepted r) = Some (number_of r)
 
 -- document 01's answers: `done`, `granted`, `pending`, `closed`, `none`, `s` and slot, `r` and refusal
 abbrev pub answer_of : Reply → Answer

@@ -1,8 +1,7 @@
 // What a call replies: document 01's answers, and its refusals by name.
 #![tactic(auto)]
 
-ghost use Rattle.std.specs.Prelude.{◌≡◌, not};
-ghost use Rattle.rules.specs.State.{is_some};
+ghost use Rattle.std.specs.Prelude.{◌≡◌, not, is_some};
 ghost use Rattle.replies.specs.Answers.{number_of, given};
 
 use rules::Slot;

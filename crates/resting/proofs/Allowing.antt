@@ -1,9 +1,9 @@
 -- A step that is not refused has a slot for the request that it makes.
+use Rattle.std.specs.Prelude.{None}
 use Prim.Native.Nat.{ℕ, ◌<◌}
 use native.Mathlib.Omega.{arith}
 use mathlib.Core.Path.{◌≡◌, refl, sym, ap, subst, ◌∙◌}
 use mathlib.Core.Bool.{Bool, true, false, false≢true}
-use mathlib.Core.Option.{none}
 use Rattle.rules.specs.declared.TaskId.{TaskId}
 use Rattle.rules.specs.declared.Ask.{Ask}
 use Rattle.rules.specs.declared.Act.{Act}
@@ -60,7 +60,7 @@ module _ (s : State) where
   has_slot_act t Sleep k = makes_none _ refl
   has_slot_act t Finish k = makes_none _ refl
 
-pub has_slot : (a : Step) (p : Plain) (c : Choice) → W.refusal a p ≡ none → c ≡ choice_of a.act p → HasSlot c
+pub has_slot : (a : Step) (p : Plain) (c : Choice) → W.refusal a p ≡ None → c ≡ choice_of a.act p → HasSlot c
 has_slot a p c e ec =
     subst HasSlot (sym ec)
     (subst (λ (q : Plain). HasSlot (choice_of a.act q)) (forget-lift p)

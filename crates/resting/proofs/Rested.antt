@@ -1,10 +1,10 @@
 -- Words that changed beside a head that did not.
+use Rattle.std.specs.Prelude.{Option, None, Some}
 use Prim.Native.Nat.{ℕ, ◌<◌}
 use native.Mathlib.Omega.{arith}
 use mathlib.Core.Path.{◌≡◌, refl, sym, ap, subst, ◌∙◌}
 use mathlib.Core.Bool.{true, false}
 use mathlib.Core.List.{List}
-use mathlib.Core.Option.{Option, none, some}
 use lib.ListN.{length, get_or, set}
 use Rattle.rules.specs.declared.TaskId.{TaskId}
 use Rattle.rules.specs.declared.Slot.{Slot}
@@ -73,11 +73,11 @@ moves-on : (t : TaskId) (c : Choice) (ss : List ℕ) → moves_in c ≡ true →
 moves-on t c ss e = record { moves = sym e; still = λ f. refl; rests = λ y f. absurd (not_both Moves y f refl) }
 
 -- ---- a request that is made
-pub made_so : (t : TaskId) (i : ℕ) (a : Ask) (q : Request) (ss ss' : List ℕ) → seen q ≡ some (unpolled a t) → SlotsShow ss' ss (set (slots_of ss) i (seen q)) → length ss' ≡ length ss
+pub made_so : (t : TaskId) (i : ℕ) (a : Ask) (q : Request) (ss ss' : List ℕ) → seen q ≡ Some (unpolled a t) → SlotsShow ss' ss (set (slots_of ss) i (seen q)) → length ss' ≡ length ss
     → SlotsRest t (Makes i a) (Rests (Made (record { 0 = i }))) ss' ss
 unfolding effect_by
 made_so t i a q ss ss' e s l =
-    slots-rest t (Makes i a) (Made (record { 0 = i })) _ refl refl ss ss' (set (slots_of ss) i (some (unpolled a t)))
+    slots-rest t (Makes i a) (Made (record { 0 = i })) _ refl refl ss ss' (set (slots_of ss) i (Some (unpolled a t)))
     (record { view = s.view ∙ ap (λ (o : Option RequestRule). set (slots_of ss) i o) e; stand = s.stand }) l (λ h ts. refl)
 
 -- ---- a poll, by what it was decided to be
@@ -125,7 +125,7 @@ module _ (d : Direct) (t : TaskId) (n : ℕ) (ss : List ℕ) where
 
 -- ---- a drop
 module _ (t : TaskId) (x : Slot) (n : ℕ) (d : Dropping) (ss : List ℕ) where
-  pub drops_nothing : (ss' : List ℕ) → d ≡ Nothing → SlotsShow ss' ss (set (slots_of ss) x.0 none) → length ss' ≡ length ss → SlotsRest t (Drops x n d) (Rests Done) ss' ss
+  pub drops_nothing : (ss' : List ℕ) → d ≡ Nothing → SlotsShow ss' ss (set (slots_of ss) x.0 None) → length ss' ≡ length ss → SlotsRest t (Drops x n d) (Rests Done) ss' ss
   unfolding effect_by drop_work
   drops_nothing ss' e s l =
       subst (λ (k : Dropping). SlotsRest t (Drops x n k) (Rests Done) ss' ss) (sym e) (slots-rest t (Drops x n Nothing) Done _ refl refl ss ss' _ s l (λ h ts. refl))

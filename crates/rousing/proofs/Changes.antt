@@ -1,9 +1,9 @@
 -- One request and its task: each answer of the code, from the tests that led to it.
+use Rattle.std.specs.Prelude.{None}
 use Prim.Native.Nat.{ℕ, ◌≤◌, ◌<◌}
 use mathlib.Core.Path.{◌≡◌, sym, ap, ◌∙◌}
 use mathlib.Core.Bool.{Bool, true, false, not, ◌&&◌, ◌||◌}
 use mathlib.Core.List.{List}
-use mathlib.Core.Option.{none}
 use borrow.Author.Tests.{le-leb, lt-leb, eq-eqb, ne_eqb, not-true, not-false}
 use lib.Dec.{leb, ltb, eqb}
 use lib.ListN.{get_or, set}
@@ -54,7 +54,7 @@ module _ (k : Change) (a b : Task) where
   changes_block v n me e f = rw e f
 
 -- ---- the task in its words
-module _ (k : Change) (ss : List ℕ) (x : Slot) (r : RequestRead) (s : Stands r (get_or (slots_of ss) x.0 none)) (n : ℕ) (w : List ℕ) (b : Bool) (eb : b ≡ concerns k (request_of r)) where
+module _ (k : Change) (ss : List ℕ) (x : Slot) (r : RequestRead) (s : Stands r (get_or (slots_of ss) x.0 None)) (n : ℕ) (w : List ℕ) (b : Bool) (eb : b ≡ concerns k (request_of r)) where
   abbrev ts : List Task
   ts = tasks_of n w
 

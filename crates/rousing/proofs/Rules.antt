@@ -1,8 +1,8 @@
 -- Waking and reblocking as document 01 has them come to what they do to the tasks.
+use Rattle.std.specs.Prelude.{Option, None, Some}
 use mathlib.Core.Path.{◌≡◌, refl, sym, ap, ◌∙◌}
 use mathlib.Core.Bool.{Bool, true, false, cond, not, ◌&&◌, and_comm, and_assoc}
 use mathlib.Core.List.{List, [], ◌∷◌}
-use mathlib.Core.Option.{Option, none, some}
 use lib.Dec.{leb}
 use lib.ListN.{set}
 use Rattle.rules.specs.declared.TaskId.{TaskId}
@@ -30,15 +30,15 @@ wakes_each (x ∷ q) s =
     ap (wake_each q) (one_changed k x s) ∙ wakes_each q (with_tasks (owner_changed k (request_at x s) s.tasks) s)
 
 -- Waking the unfair, by the reservation: none; one whose task is finished; one whose task is not.
-pub wakes_queue : (s : Plain) → wake_unfair (with_reservation none s) ≡ with_tasks (for_each (WakeIfEnough s.stock) s.slots s.queue s.tasks) (with_reservation none s)
+pub wakes_queue : (s : Plain) → wake_unfair (with_reservation None s) ≡ with_tasks (for_each (WakeIfEnough s.stock) s.slots s.queue s.tasks) (with_reservation None s)
 unfolding wake_unfair
-wakes_queue s = wakes_each s.queue (with_reservation none s)
+wakes_queue s = wakes_each s.queue (with_reservation None s)
 
-module _ (x : Slot) (s : Plain) (m : s.reservation ≡ some x) where
-  cleared : (b : Bool) → owner_finished x s ≡ b → clear_finished s ≡ cond b (with_reservation none s) s
-  cleared b e = ap (λ (o : Option Slot). cleared_if o s) m ∙ ap (λ (c : Bool). cond c (with_reservation none s) s) e
+module _ (x : Slot) (s : Plain) (m : s.reservation ≡ Some x) where
+  cleared : (b : Bool) → owner_finished x s ≡ b → clear_finished s ≡ cond b (with_reservation None s) s
+  cleared b e = ap (λ (o : Option Slot). cleared_if o s) m ∙ ap (λ (c : Bool). cond c (with_reservation None s) s) e
 
-  pub wakes_past : owner_finished x s ≡ true → wake_unfair s ≡ wake_unfair (with_reservation none s)
+  pub wakes_past : owner_finished x s ≡ true → wake_unfair s ≡ wake_unfair (with_reservation None s)
   unfolding wake_unfair
   wakes_past f = ap (λ (a : Plain). wake_by a.reservation a) (cleared true f)
 

@@ -1,9 +1,9 @@
 -- A head with the words of its tasks changed shows what the rules say.
+use Rattle.std.specs.Prelude.{Option, None, Some}
 use Prim.Native.Nat.{ℕ}
 use mathlib.Core.Path.{◌≡◌, sym, ap, ◌∙◌}
 use mathlib.Core.Bool.{Bool, true, false, not}
 use mathlib.Core.List.{List}
-use mathlib.Core.Option.{Option, none, some}
 use borrow.Author.Tests.{not-true, not-false}
 use lib.ListN.{length, get_or}
 use Rattle.rules.specs.declared.TaskId.{TaskId}
@@ -33,23 +33,23 @@ module _ (h : Head) (ss ts : List ℕ) (s : Shaped h ss ts) where
 
   pub shows_cancelled : (after : List ℕ) (v : Reservation) → length after ≡ length ts
       → TasksShow h.tasks after ts (for_each (WakeIfEnough h.stock) (slots_of ss) (waiters_of h.waiters) (tasks_of h.tasks ts))
-      → reservation_of v ≡ none → Shows (reserved_as v h) ss after (wake_unfair (with_reservation none p))
+      → reservation_of v ≡ None → Shows (reserved_as v h) ss after (wake_unfair (with_reservation None p))
   shows_cancelled after v e k n = shown (reserved_as v h) ss after _ _ (unreserved_shown h ss ts s after _ k e v n) (sym (wakes_queue p))
 
-  pub shows_unreserved : not h.reservation.made ≡ true → (r : Head) (after : List ℕ) → Shows r ss after (wake_unfair (with_reservation none p)) → Shows r ss after (wake_unfair p)
+  pub shows_unreserved : not h.reservation.made ≡ true → (r : Head) (after : List ℕ) → Shows r ss after (wake_unfair (with_reservation None p)) → Shows r ss after (wake_unfair p)
   shows_unreserved m r after k =
-      let e : reservation_of h.reservation ≡ none = rw (not-true h.reservation.made m) in
+      let e : reservation_of h.reservation ≡ None = rw (not-true h.reservation.made m) in
       shown r ss after _ _ k (ap (λ (o : Option Slot). wake_unfair (with_reservation o p)) (sym e))
 
-  module _ (m : not h.reservation.made ≡ false) (r : RequestRead) (st : Stands r (get_or (slots_of ss) h.reservation.slot.0 none))
+  module _ (m : not h.reservation.made ≡ false) (r : RequestRead) (st : Stands r (get_or (slots_of ss) h.reservation.slot.0 None))
       (f : Bool) (ef : f ≡ is_finished (get_or (tasks_of h.tasks ts) r.task no_task).state) where
-    made : reservation_of h.reservation ≡ some h.reservation.slot
+    made : reservation_of h.reservation ≡ Some h.reservation.slot
     made = rw (not-false h.reservation.made m)
 
     ended : owner_finished h.reservation.slot p ≡ f
     ended = ap (λ (z : Request). is_finished (get_or (tasks_of h.tasks ts) z.task.0 no_task).state) (sym st.view) ∙ sym ef
 
-    pub shows_past : f ≡ true → (q : Head) (after : List ℕ) → Shows q ss after (wake_unfair (with_reservation none p)) → Shows q ss after (wake_unfair p)
+    pub shows_past : f ≡ true → (q : Head) (after : List ℕ) → Shows q ss after (wake_unfair (with_reservation None p)) → Shows q ss after (wake_unfair p)
     shows_past e q after k = shown q ss after _ _ k (sym (wakes_past h.reservation.slot p made (ended ∙ e)))
 
     pub shows-held : f ≡ false → (after : List ℕ) → length after ≡ length ts

@@ -1,7 +1,5 @@
 -- What waking and reblocking do to the tasks of queued requests: one, and a queue's from the front.
-use Rattle.std.specs.Prelude.{ℕ, Bool, true, cond, not, ◌&&◌, ◌||◌, List, [], ◌∷◌, leb, ltb, eqb, get_or, set}
-use Rattle.std.proofs.Math.Option
-use Rattle.std.proofs.Math.Option.{Option, none}
+use Rattle.std.specs.Prelude.{ℕ, Bool, true, cond, not, ◌&&◌, ◌||◌, List, [], ◌∷◌, leb, ltb, eqb, get_or, set, Option, None, unwrap_or}
 use Rattle.rules.specs.declared.Slot.{Slot}
 use Rattle.rules.specs.Task.{is_finished}
 use Rattle.splitting.specs.Plain.{Task, no_task, blocked, unblocked, wakened, Request, no_request}
@@ -10,7 +8,7 @@ use Rattle.rousing.specs.declared.Change.TheVariants.{Wake, WakeIfEnough, Rebloc
 
 -- the request in a slot
 abbrev pub request_in : List (Option Request) → Slot → Request
-request_in rs x = Option.get_or (get_or rs x.0 none) no_request
+request_in rs x = unwrap_or (get_or rs x.0 None) no_request
 
 -- whether the request's task is to be changed, if it is not finished
 abbrev pub concerns : Change → Request → Bool

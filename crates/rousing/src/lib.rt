@@ -1,8 +1,7 @@
 // Who is woken and who is blocked again, after the source's functions: waking the unfair, reblocking, cancelling a reservation.
 #![tactic(auto)]
 
-ghost use Rattle.std.specs.Prelude.{◌≡◌, not, ◌&&◌, ◌||◌, ◌*◌, ◌≤◌, ltb, eqb, length};
-ghost use Rattle.std.proofs.Math.Option.{none};
+ghost use Rattle.std.specs.Prelude.{◌≡◌, not, ◌&&◌, ◌||◌, ◌*◌, ◌≤◌, ltb, eqb, length, None};
 ghost use Rattle.rules.specs.Sizes.{max_tasks, slot_count};
 ghost use Rattle.splitting.specs.Plain.{unblocked, wakened, with_reservation, ◌▷◌};
 ghost use Rattle.splitting.specs.Who.{wake_unfair, reblock};
@@ -125,7 +124,7 @@ fn wake_holder(holder: Request, stock: u32, tasks: &mut [u32], count: u32)
 // The reservation is cleared, and whoever is queued and can now go on is woken.
 pub fn cancel_reservation(h: Head, slots: &[u32], tasks: &mut [u32]) -> Head
     requires { Shaped h slots.now tasks.old }
-    ensures { Shows result slots.now tasks.new (plain_of h slots.now tasks.old ▷ with_reservation none ▷ wake_unfair) }
+    ensures { Shows result slots.now tasks.new (plain_of h slots.now tasks.old ▷ with_reservation None ▷ wake_unfair) }
 {
     let waiters = h.waiters;
     let race = Change::WakeIfEnough(h.stock);

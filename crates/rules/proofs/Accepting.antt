@@ -1,9 +1,9 @@
 -- What holds where nothing is refused: the facts that an accepted step and an accepted start have.
+use Rattle.std.specs.Prelude.{Option, None, Some}
 use Prim.Native.Nat.{ℕ, ◌+◌, ◌*◌, ◌≤◌, ◌<◌}
 use native.Mathlib.Omega.{arith}
 use mathlib.Core.Path.{◌≡◌, refl, subst}
 use mathlib.Core.Bool.{Bool, true, false, cond}
-use mathlib.Core.Option.{Option, none, some}
 use borrow.Author.Tests.{ltb-false, leb-false, eqb-true, not-false, lt-ltb}
 use lib.Dec.{leb, ltb, eqb}
 use lib.ListN.{length, get_or}
@@ -22,7 +22,7 @@ use Rattle.rules.specs.Refusals.{polls_nothing, bad_upgrade, full, last_tick, gi
 use Rattle.rules.proofs.Bools.{neither, and_other, positive}
 
 -- the first ground not given, and those after it
-ungiven : (b : Bool) (n : ℕ) (o : Option ℕ) → cond b (some n) o ≡ none → (b ≡ false) × (o ≡ none)
+ungiven : (b : Bool) (n : ℕ) (o : Option ℕ) → cond b (Some n) o ≡ None → (b ≡ false) × (o ≡ None)
 ungiven true n o e = let z : ◌≡◌ {A = ℕ} 0 1 = cc in absurd (omega arith)
 ungiven false n o e = (refl, e)
 
@@ -32,7 +32,7 @@ pub record Releasable (t : TaskId) (n : ℕ) (s : State) : Type 0 where
   pub room : 0 < n → full s.permits.batches ≡ false
   pub tick : 0 < n → get_or (task_at t s).clock t.0 0 < largest
 
-releasable : (t : TaskId) (n : ℕ) (s : State) → first (release_grounds t n s) ≡ none → Releasable t n s
+releasable : (t : TaskId) (n : ℕ) (s : State) → first (release_grounds t n s) ≡ None → Releasable t n s
 releasable t n s e =
     let g10 = ungiven _ _ _ e in
     let g9 = ungiven _ _ _ g10.1 in
@@ -87,7 +87,7 @@ has_slot s e = leb-false slot_count (lowest_free s.slots) e
 may_tick : (t : TaskId) (s : State) → last_tick t s ≡ false → MayTick t s
 may_tick t s e = leb-false largest _ e
 
-allowed_act : (t : TaskId) (a : Act) (s : State) → first (grounds t a s) ≡ none → Allowed t a s
+allowed_act : (t : TaskId) (a : Act) (s : State) → first (grounds t a s) ≡ None → Allowed t a s
 unfolding grounds
 allowed_act t (Acquire n) s e = has_slot s (ungiven _ _ _ e).0
 allowed_act t (AcquireBypassable n) s e = has_slot s (ungiven _ _ _ e).0
@@ -130,7 +130,7 @@ pub record Accepted (a : Step) (s : State) : Type 0 where
   pub runnable : is_runnable (task_at a.actor s).state ≡ true
   pub allowed : Allowed a.actor a.act s
 
-pub accepted : (a : Step) (s : State) → refusal a s ≡ none → Accepted a s
+pub accepted : (a : Step) (s : State) → refusal a s ≡ None → Accepted a s
 unfolding refusal
 accepted a s e =
     let g1 = ungiven _ _ _ e in
@@ -147,7 +147,7 @@ pub record Startable (a : Start) : Type 0 where
   pub some_tasks : 0 < a.tasks
   pub few-tasks : a.tasks ≤ max_tasks
   pub clocks : length a.clocks ≡ a.tasks * a.tasks
-  pub maker : (t : TaskId) → a.maker ≡ some t → t.0 < a.tasks
+  pub maker : (t : TaskId) → a.maker ≡ Some t → t.0 < a.tasks
 
 pub startable : (a : Start) → refuses12 a ≡ false → Startable a
 unfolding refuses12

@@ -1,10 +1,10 @@
 -- Batches add up: setting up, eating, taking and adding keep them so.
+use Rattle.std.specs.Prelude.{Option, None, Some}
 use Prim.Native.Nat.{ℕ, zero, suc, ◌+◌, ◌-◌, ◌≤◌, ◌<◌}
 use native.Mathlib.Omega.{arith}
 use mathlib.Core.Path.{◌≡◌, refl, sym, subst, ◌∙◌}
 use mathlib.Core.Bool.{false}
 use mathlib.Core.List.{List, [], ◌∷◌, ◌++◌}
-use mathlib.Core.Option.{Option, none, some}
 use borrow.Author.Tests.{ltb-true, ltb-false, leb-false}
 use lib.Dec.{ltb}
 use lib.ListN.{length, length-append}
@@ -41,10 +41,10 @@ unfolding first_batch
 first-few zero c = omega arith
 first-few (suc n) c = omega arith
 
-standing_adds_up : (n : ℕ) (o : Option (List Batch)) → ((bs : List Batch) → o ≡ some bs → AddUp bs n) → AddUp (standing_of n o) n
+standing_adds_up : (n : ℕ) (o : Option (List Batch)) → ((bs : List Batch) → o ≡ Some bs → AddUp bs n) → AddUp (standing_of n o) n
 unfolding standing_of
-standing_adds_up n none h = first_adds_up n (empty width)
-standing_adds_up n (some bs) h = h bs refl
+standing_adds_up n None h = first_adds_up n (empty width)
+standing_adds_up n (Some bs) h = h bs refl
 
 -- the batches that stand once they are set up add up to the stock
 pub standing-sound : (p : Permits) → SoundPermits p → AddUp (standing p) p.stock
@@ -76,7 +76,7 @@ eat-leaves (b ∷ bs) (suc n) c h z =
 -- Taking and adding.
 
 -- batches set up that add up
-set_up : (p : Permits) (bs : List Batch) → p.batches ≡ some bs → AddUp bs p.stock → SoundPermits p
+set_up : (p : Permits) (bs : List Batch) → p.batches ≡ Some bs → AddUp bs p.stock → SoundPermits p
 set_up p bs e h cs f = let g : cs ≡ bs = cc in subst (λ (l : List Batch). AddUp l p.stock) (sym g) h
 
 pub sound-taking : (n : ℕ) (c : Clock) (p : Permits) → n ≤ p.stock → SoundPermits p → SoundPermits (taking n c p).permits
@@ -90,8 +90,8 @@ sound-taking n c p l h =
 -- where there is room for one more
 pub standing-room : (n : ℕ) (o : Option (List Batch)) → full o ≡ false → length (standing_of n o) < batch_count
 unfolding standing_of
-standing-room n none e = omega (arith, first-few n (empty width))
-standing-room n (some bs) e = leb-false batch_count (length bs) e
+standing-room n None e = omega (arith, first-few n (empty width))
+standing-room n (Some bs) e = leb-false batch_count (length bs) e
 
 pub sound-adding : (n : ℕ) (c : Clock) (p : Permits) → 0 < n → full p.batches ≡ false → SoundPermits p → SoundPermits (adding n c p)
 unfolding adding standing total any_of

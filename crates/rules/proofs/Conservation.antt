@@ -1,10 +1,10 @@
 -- Conservation: what a step takes from the stock it grants, and what it adds was released or given up.
+use Rattle.std.specs.Prelude.{Option, None, Some}
 use Prim.Native.Nat.{ℕ, zero, suc, ◌+◌, ◌-◌, ◌≤◌, ◌<◌}
 use native.Mathlib.Omega.{arith}
 use mathlib.Core.Path.{◌≡◌, refl, sym, ap, ◌∙◌}
 use mathlib.Core.Bool.{false, Bool, cond, not, ◌&&◌}
 use mathlib.Core.List.{List, [], ◌∷◌, ◌++◌}
-use mathlib.Core.Option.{Option, none, some}
 use Rattle.rules.specs.declared.TaskId.{TaskId}
 use Rattle.rules.specs.declared.Slot.{Slot}
 use Rattle.rules.specs.declared.Grant.{Grant}
@@ -96,11 +96,11 @@ poll_balance Stays t x s k = balanced refl
 poll_balance QueuesBack t x s k = balanced refl
 poll_balance QueuesFront t x s k = balanced refl
 poll_balance TakesReserved t x s k =
-    let a = with_reservation none s in
+    let a = with_reservation None s in
     balanced_taking _ k.0.fits (stock_of (untouched_wake (take_as t (asked_at x s) a)) ∙ take-stock t (asked_at x s) a)
 poll_balance Takes t x s k =
     balanced_taking _ k.fits (stock_of (untouched_roused (reblocks t (leave x (take_as t (asked_at x s) s)))) ∙ take-stock t (asked_at x s) s)
-poll_balance Reserves t x s k = balanced (stock_of (untouched_roused (reblocks t (with_reservation (some x) (leave x s)))))
+poll_balance Reserves t x s k = balanced (stock_of (untouched_roused (reblocks t (with_reservation (Some x) (leave x s)))))
 
 try_balance : (d : Direct) (t : TaskId) (n : ℕ) (s : State) → (d ≡ Take → n ≤ stock s) → Balance s 0 (try_by d t n s).grants (try_by d t n s).state
 unfolding try_by
@@ -115,7 +115,7 @@ unfolding drop_work
 drop_balance Leaving t x s =
     by_drop-queued (λ g. Balance s 0 g.grants g.state) x s (omega (arith, scan-grants (leave x s)))
     (λ e. balanced refl)
-drop_balance Unreserving t x s = balanced (stock_of (untouched_wake (with_reservation none s)))
+drop_balance Unreserving t x s = balanced (stock_of (untouched_wake (with_reservation None s)))
 drop_balance Returning t x s = release_balance t (asked_at x s) s
 drop_balance Nothing t x s = balanced refl
 
@@ -158,13 +158,13 @@ unfolding step
 step_balance a s h = go (refusal a s) refl
   where
     go : (o : Option ℕ) → refusal a s ≡ o → Balance s (if_accepted o (releases a.act + gives_up a.act s) 0) (unless o a s).grants (unless o a s).state
-    go none e = act_balance a.actor a.act s h (accepted a s e).allowed
-    go (some n) e = balanced refl
+    go None e = act_balance a.actor a.act s h (accepted a s e).allowed
+    go (Some n) e = balanced refl
 
 -- a sum over the steps is the sum of its two parts
 accepted-sum : (o : Option ℕ) (m n : ℕ) → if_accepted o (m + n) 0 ≡ if_accepted o m 0 + if_accepted o n 0
-accepted-sum none m n = refl
-accepted-sum (some r) m n = refl
+accepted-sum None m n = refl
+accepted-sum (Some r) m n = refl
 
 pub run_balance : (as' : List Step) (s : State) → Sound s
     → stock (run as' s).state + granted_in (run as' s).said ≡ stock s + (released_in as' s + given_up_in as' s)

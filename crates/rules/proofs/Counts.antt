@@ -1,11 +1,10 @@
 -- Counts fit: no step makes a count or a clock entry that passes the largest, or a clock of another width.
+use Rattle.std.specs.Prelude.{Option, None, Some, option_map, unwrap_or}
 use Prim.Native.Nat.{ℕ, zero, suc, ◌+◌, ◌-◌, ◌≤◌, ◌<◌}
 use native.Mathlib.Nat.{max-le}
 use native.Mathlib.Omega.{arith}
 use mathlib.Core.Path.{◌≡◌, sym, ap, subst, ◌∙◌}
 use mathlib.Core.List.{List, [], ◌∷◌, cons≢nil, head-eq_of_cons-eq, tail-eq_of_cons-eq}
-use mathlib.Core.Option
-use mathlib.Core.Option.{Option, none, some, map}
 use lib.Dec.{ltb}
 use lib.ListN.{length, get_or, length-set}
 use Rattle.rules.specs.declared.TaskId.{TaskId}
@@ -59,8 +58,8 @@ first_fits (suc n) c l h = (record { size = l; clock = h }, tt)
 
 standing-fits : (n : ℕ) (o : Option (List Batch)) → n ≤ largest → Each BatchFits (set_up_batches o) → Each BatchFits (standing_of n o)
 unfolding standing_of
-standing-fits n none l h = first_fits n (empty width) l empty-fits
-standing-fits n (some bs) l h = h
+standing-fits n None l h = first_fits n (empty width) l empty-fits
+standing-fits n (Some bs) l h = h
 
 record MealFits (m : Meal) : Type 0 where
   clock : ClockFits m.clock
@@ -132,18 +131,18 @@ module _ (n : ℕ) where
   task-fits t s h = each_at TaskFits s.tasks t.0 no_task h.tasks empty-fits
 
   pub slot-fits : (x : Slot) (s : State) → Counted n s → SlotFits n (slot_at x s)
-  slot-fits x s h = each_at (SlotFits n) s.slots x.0 none h.requests tt
+  slot-fits x s h = each_at (SlotFits n) s.slots x.0 None h.requests tt
 
-  clock-fits : (o : Option Request) → SlotFits n o → ClockFits (Option.get_or o no_request).clock
-  clock-fits none h = empty-fits
-  clock-fits (some r) h = h.clock
+  clock-fits : (o : Option Request) → SlotFits n o → ClockFits (unwrap_or o no_request).clock
+  clock-fits None h = empty-fits
+  clock-fits (Some r) h = h.clock
 
   pub request-fits : (x : Slot) (s : State) → Counted n s → ClockFits (request_at x s).clock
   request-fits x s h = clock-fits (slot_at x s) (slot-fits x s h)
 
-  ask-fits : (o : Option Request) → SlotFits n o → (Option.get_or o no_request).ask.asked ≤ largest
-  ask-fits none h = omega arith
-  ask-fits (some r) h = h.asked
+  ask-fits : (o : Option Request) → SlotFits n o → (unwrap_or o no_request).ask.asked ≤ largest
+  ask-fits None h = omega arith
+  ask-fits (Some r) h = h.asked
 
   pub asked-fits : (x : Slot) (s : State) → Counted n s → asked_at x s ≤ largest
   asked-fits x s h = ask-fits (slot_at x s) (slot-fits x s h)
@@ -169,9 +168,9 @@ module _ (n : ℕ) where
       }
 
   altered-fits : (f : Request → Request) → ((r : Request) → RequestFits n r → RequestFits n (f r))
-      → (o : Option Request) → SlotFits n o → SlotFits n (map f o)
-  altered-fits f k none h = tt
-  altered-fits f k (some r) h = k r h
+      → (o : Option Request) → SlotFits n o → SlotFits n (option_map f o)
+  altered-fits f k None h = tt
+  altered-fits f k (Some r) h = k r h
 
   pub slots-altered : (x : Slot) (f : Request → Request) (s : State) → ((r : Request) → RequestFits n r → RequestFits n (f r)) → Counted n s
       → Each (SlotFits n) (alter_request x f s).slots

@@ -1,5 +1,6 @@
 -- Decimal numbers: the last digit of a number stands behind those of its tenth; reading a printed number gives it back, and so does printing
 -- one that was read.
+use Rattle.std.specs.Prelude.{Some}
 use Prim.Native.Nat.{ℕ, zero, suc, ◌+◌, ◌*◌, ◌-◌, ◌/◌, ◌%◌, ◌^◌, ◌≤◌, ◌<◌}
 use native.Mathlib.Nat.{div-add-mod'}
 use native.Mathlib.Decide.{dec_lt}
@@ -7,7 +8,6 @@ use native.Mathlib.Omega.{arith}
 use mathlib.Core.Path.{◌≡◌, refl, ap, sym, ◌∙◌}
 use mathlib.Core.Bool.{true, ◌&&◌, false≢true}
 use mathlib.Core.List.{List, [], ◌∷◌, ◌++◌, append_assoc, append-nil}
-use mathlib.Core.Option.{some}
 use lib.Dec.{leb, eqb}
 use lib.ListN.{length, length-append}
 use borrow.Author.Tests.{leb-true, eqb-false, not-true, lt-ltb, le-ltb, le-leb, ne_eqb}
@@ -120,7 +120,7 @@ unfolding all_digits
 all_of_digits n = rw (← append-nil (digits n)) (digits-digits n [])
 
 -- Reading a printed number gives the number back.
-pub read-printed : (n : ℕ) → n ≤ largest → number_of (digits n) ≡ some n
+pub read-printed : (n : ℕ) → n ≤ largest → number_of (digits n) ≡ Some n
 unfolding number_of
 read-printed n h = rw (digits-plain n, all_of_digits n, value_of_digits n, le-leb n largest h)
 
@@ -148,7 +148,7 @@ record Number (f : List ℕ) (n : ℕ) : Type 0 where
   fits : n ≤ largest
   value : value_from 0 f ≡ n
 
-number : (f : List ℕ) (n : ℕ) → number_of f ≡ some n → Number f n
+number : (f : List ℕ) (n : ℕ) → number_of f ≡ Some n → Number f n
 unfolding number_of
 number f n e =
     let s = said_if (no_leading_zero f && all_digits f && leb (value_from 0 f) largest) (value_from 0 f) n e in
@@ -156,7 +156,7 @@ number f n e =
     let u = both (no_leading_zero f) (all_digits f) t.0 in
     record { plain = u.0; all = u.1; fits = omega (arith, leb-true (value_from 0 f) largest t.1); value = s.1 }
 
-pub read_fits : (f : List ℕ) (n : ℕ) → number_of f ≡ some n → n ≤ largest
+pub read_fits : (f : List ℕ) (n : ℕ) → number_of f ≡ Some n → n ≤ largest
 read_fits f n e = (number f n e).fits
 
 digits-next : (n d : ℕ) → 0 < n → d < 10 → digits (n * 10 + d) ≡ digits n ++ (48 + d) ∷ []
@@ -193,5 +193,5 @@ digits_of_value (c ∷ d ∷ cs) p a =
     ap (λ (ds : List ℕ). ds ++ d ∷ cs) (sym (digit_alone c b.0)) ∙ digits-behind (0 * 10 + (c - 48)) (d ∷ cs) h b.1
 
 -- Printing a number that was read gives its field back.
-pub printed-read : (f : List ℕ) (n : ℕ) → number_of f ≡ some n → f ≡ digits n
+pub printed-read : (f : List ℕ) (n : ℕ) → number_of f ≡ Some n → f ≡ digits n
 printed-read f n e = let r = number f n e in digits_of_value f r.plain r.all ∙ ap digits r.value

@@ -1,10 +1,10 @@
 -- Finished stays Finished: no step, accepted or refused, in any state, gives a finished task another state; so no run does. (Blocking and unblocking
 -- ask nothing of the record that they change: it is the rules that never let them come upon a finished one.)
+use Rattle.std.specs.Prelude.{Option, None, Some}
 use Prim.Native.Nat.{ℕ}
 use mathlib.Core.Path.{◌≡◌, refl, sym, subst}
 use mathlib.Core.Bool.{true, false, not, ◌&&◌}
 use mathlib.Core.List.{List, [], ◌∷◌}
-use mathlib.Core.Option.{Option, none, some}
 use borrow.Author.Tests.{not-true}
 use lib.Dec.{leb, eqb}
 use lib.ListN.{get_or, set}
@@ -116,10 +116,10 @@ unfolding wake_unfair
 still-woken s = go s.reservation refl
   where
     go : (o : Option Slot) → s.reservation ≡ o → StillFinished s (wake_by (cleared_if o s).reservation (cleared_if o s))
-    go none e = subst (λ (r : Option Slot). StillFinished s (wake_by r s)) (sym e) (still_each s.queue s)
-    go (some x) e =
+    go None e = subst (λ (r : Option Slot). StillFinished s (wake_by r s)) (sym e) (still_each s.queue s)
+    go (Some x) e =
         by_cond (λ b. StillFinished s (wake_by b.reservation b)) (owner_finished x s)
-        (λ k. still_each s.queue (with_reservation none s))
+        (λ k. still_each s.queue (with_reservation None s))
         (λ k.
         subst (λ (r : Option Slot). StillFinished s (wake_by r s)) (sym e)
         (by_cond (StillFinished s) (leb (asked_at x s) (stock s)) (λ l. still-awake (task_of x s) s k) (λ l. lasts s.tasks)))
@@ -153,8 +153,8 @@ still-closed s =
     by_cond (StillFinished s) s.closed (λ e. lasts s.tasks) (λ e. lasts_then (still_emptied s.queue _) (go s.reservation _))
   where
     go : (o : Option Slot) (b : State) → StillFinished b (drop_reservation o b)
-    go none b = lasts b.tasks
-    go (some x) b = still-unfinished-woken x (with_reservation none b)
+    go None b = lasts b.tasks
+    go (Some x) b = still-unfinished-woken x (with_reservation None b)
 
 -- Each step.
 
@@ -166,12 +166,12 @@ still-polled Stays t x s = lasts s.tasks
 still-polled QueuesBack t x s = lasts s.tasks
 still-polled QueuesFront t x s = lasts s.tasks
 still-polled TakesReserved t x s =
-    let a = with_reservation none s in
+    let a = with_reservation None s in
     lasts_then (still_taken t (asked_at x s) a) (still-woken (take_as t (asked_at x s) a))
 still-polled Takes t x s =
     let a = take_as t (asked_at x s) s in
     lasts_then (still_taken t (asked_at x s) s) (still_reblocked t (leave x a))
-still-polled Reserves t x s = still_reblocked t (with_reservation (some x) (leave x s))
+still-polled Reserves t x s = still_reblocked t (with_reservation (Some x) (leave x s))
 
 still-tried : (d : Direct) (t : TaskId) (n : ℕ) (s : State) → StillFinished s (try_by d t n s).state
 unfolding try_by
@@ -190,7 +190,7 @@ still_released t n s =
 still_dropped : (d : Dropping) (t : TaskId) (x : Slot) (s : State) → StillFinished s (drop_work d t x s).state
 unfolding drop_work
 still_dropped Leaving t x s = by_drop-queued (λ g. StillFinished s g.state) x s (still_scanned (leave x s)) (λ e. lasts s.tasks)
-still_dropped Unreserving t x s = still-woken (with_reservation none s)
+still_dropped Unreserving t x s = still-woken (with_reservation None s)
 still_dropped Returning t x s = still_released t (asked_at x s) s
 still_dropped Nothing t x s = lasts s.tasks
 

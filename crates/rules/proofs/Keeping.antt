@@ -1,11 +1,11 @@
 -- What a sound state rests on: on its permits only by what they add up to, on its tasks only by their number, and on each slot by itself. So a
 -- change at one slot is sound if it is so there.
+use Rattle.std.specs.Prelude.{Option, None, Some, unwrap_or, is_some}
 use Prim.Native.Nat.{◌≤◌}
 use native.Mathlib.Omega.{arith}
 use mathlib.Core.Path.{◌≡◌, refl, sym, ap, ◌∙◌}
 use mathlib.Core.Bool.{true, false}
 use mathlib.Core.List.{List, []}
-use mathlib.Core.Option.{Option, none, some, get_or}
 use lib.ListN.{length, length-set}
 use Rattle.rules.specs.declared.TaskId.{TaskId}
 use Rattle.rules.specs.declared.Slot.{Slot}
@@ -13,7 +13,7 @@ use Rattle.rules.specs.declared.Fairness.{Fairness}
 use Rattle.rules.specs.Sizes.{max_tasks, slot_count}
 use Rattle.rules.specs.Task.{Task}
 use Rattle.rules.specs.Request.{Request, no_request}
-use Rattle.rules.specs.State.{Permits, State, is_strict, is_some, same_slot, request_at, with_permits, with_reservation, with_tasks, alter_task}
+use Rattle.rules.specs.State.{Permits, State, is_strict, same_slot, request_at, with_permits, with_reservation, with_tasks, alter_task}
 use Rattle.rules.specs.Waking.{clear_finished, wake_unfair}
 use Rattle.rules.specs.Broken.{member, twice}
 use Rattle.rules.specs.Sound.{Waits, IsReserved, WellMade, SoundPermits, Sound}
@@ -26,7 +26,7 @@ use Rattle.rules.proofs.Tasks.{Roused, roused-number, roused_keeps, by_cleared, 
 pub record SoundAt (s : State) (x : Slot) : Type 0 where
   pub queued : member x s.queue ≡ true → Waits s x
   pub marked : (request_at x s).queued ≡ member x s.queue
-  pub reserves : s.reservation ≡ some x → IsReserved s x
+  pub reserves : s.reservation ≡ Some x → IsReserved s x
   pub made : (request_at x s).ask.reserving ≡ true → WellMade s x
 
 pub sound_at : (s : State) → Sound s → (x : Slot) → SoundAt s x
@@ -37,7 +37,7 @@ pub record SoundWhole (s : State) : Type 0 where
   pub slots : length s.slots ≡ slot_count
   pub tasks : length s.tasks ≤ max_tasks
   pub once : twice s.queue ≡ false
-  pub closed : s.closed ≡ true → (s.queue ≡ []) × (s.reservation ≡ none)
+  pub closed : s.closed ≡ true → (s.queue ≡ []) × (s.reservation ≡ None)
   pub permits : SoundPermits s.permits
 
 pub sound_of : (s : State) → SoundWhole s → ((x : Slot) → SoundAt s x) → Sound s
@@ -61,14 +61,14 @@ pub record Alike (s b : State) (x : Slot) : Type 0 where
   pub tasks : length b.tasks ≡ length s.tasks
   pub slot : slot_at x b ≡ slot_at x s
   pub members : member x b.queue ≡ member x s.queue
-  pub reserved : b.reservation ≡ some x → s.reservation ≡ some x
+  pub reserved : b.reservation ≡ Some x → s.reservation ≡ Some x
 
 module _ {s b : State} {x : Slot} (k : Alike s b x) where
   alike : {A : Type 0} (f : Option Request → A) → f (slot_at x b) ≡ f (slot_at x s)
   alike f = ap f k.slot
 
   abbrev of : {A : Type 0} → (Request → A) → Option Request → A
-  of f o = f (get_or o no_request)
+  of f o = f (unwrap_or o no_request)
 
   waits_alike : Waits s x → Waits b x
   waits_alike w =
@@ -122,9 +122,9 @@ sound-roused {s} r h = roused_keeps Sound r (sound-tasks r.tasks s (roused-numbe
 
 -- A reservation cleared.
 
-pub sound_unreserved : (s : State) → Sound s → Sound (with_reservation none s)
+pub sound_unreserved : (s : State) → Sound s → Sound (with_reservation None s)
 sound_unreserved s h =
-    sound_of (with_reservation none s)
+    sound_of (with_reservation None s)
     (record { slots = h.slots; tasks = h.tasks; once = h.once; closed = λ e. ((h.closed e).0, refl); permits = h.permits })
     (λ x. sound_alike (record { fairness = refl; tasks = refl; slot = refl; members = refl; reserved = λ e. cc }) (sound_at s h x))
 
@@ -143,9 +143,9 @@ pub record Beside (x : Slot) (s b : State) : Type 0 where
   pub slots : length b.slots ≡ length s.slots
   pub others : (y : Slot) → same_slot x y ≡ false → slot_at y b ≡ slot_at y s
   pub members : (y : Slot) → same_slot x y ≡ false → member y b.queue ≡ member y s.queue
-  pub reserved : (y : Slot) → same_slot x y ≡ false → b.reservation ≡ some y → s.reservation ≡ some y
+  pub reserved : (y : Slot) → same_slot x y ≡ false → b.reservation ≡ Some y → s.reservation ≡ Some y
   pub once : twice b.queue ≡ false
-  pub closed : b.closed ≡ true → (b.queue ≡ []) × (b.reservation ≡ none)
+  pub closed : b.closed ≡ true → (b.queue ≡ []) × (b.reservation ≡ None)
   pub permits : SoundPermits b.permits
 
 pub sound_beside : (x : Slot) (s b : State) → Sound s → Beside x s b → SoundAt b x → Sound b

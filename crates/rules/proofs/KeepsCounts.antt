@@ -1,10 +1,10 @@
 -- Every step keeps the counts within their sizes, and every fresh state starts so.
+use Rattle.std.specs.Prelude.{Option, None, Some}
 use Prim.Native.Nat.{ℕ, zero, suc, ◌-◌, ◌*◌, ◌≤◌, ◌<◌}
 use native.Mathlib.Omega.{arith}
 use mathlib.Core.Path.{◌≡◌, refl, sym, subst, ◌∙◌}
 use mathlib.Core.Bool.{Bool, true, false}
 use mathlib.Core.List.{List, [], ◌∷◌, ◌++◌}
-use mathlib.Core.Option.{Option, none, some}
 use lib.ListN.{length, take, drop, replicate, length-append, length-drop, length-replicate}
 use lib.Seq.{length-take-le}
 use Rattle.rules.specs.declared.TaskId.{TaskId}
@@ -114,7 +114,7 @@ module _ (n : ℕ) where
   counted-scan s h = counted-walk s.queue s [] h
 
   counted_wake : (s : State) → Counted n s → Counted n (wake_unfair s)
-  counted_wake s h = counted-roused n (rouse_unfair s) (by_cleared (Counted n) s h (counted-reservation none s h))
+  counted_wake s h = counted-roused n (rouse_unfair s) (by_cleared (Counted n) s h (counted-reservation None s h))
 
   -- Steps.
 
@@ -138,18 +138,18 @@ module _ (n : ℕ) where
         counted-altered x (polled_pending t) (queue_front x s) (marks_pending t l)
         (counted-slots n (queue_front x s) s refl refl (slots-altered n x (queued_as true) s (marks_queued true) h) h)
     counted-poll TakesReserved t x l k =
-        let a = with_reservation none s in
+        let a = with_reservation None s in
         let b = take_as t (asked_at x s) a in
         counted-altered x polled_granted (wake_unfair b) marks_granted
-        (counted_wake b (counted-take t (asked_at x s) a (k refl) (counted-reservation none s h)))
+        (counted_wake b (counted-take t (asked_at x s) a (k refl) (counted-reservation None s h)))
     counted-poll Takes t x l k =
         let a = leave x (take_as t (asked_at x s) s) in
         counted-altered x polled_granted (reblock t a) marks_granted
         (counted-roused n (reblocks t a) (counted-leave x _ (counted-take t (asked_at x s) s (k refl) h)))
     counted-poll Reserves t x l k =
-        let a = with_reservation (some x) (leave x s) in
+        let a = with_reservation (Some x) (leave x s) in
         counted-altered x (polled_pending t) (reblock t a) (marks_pending t l)
-        (counted-roused n (reblocks t a) (counted-reservation (some x) (leave x s) (counted-leave x s h)))
+        (counted-roused n (reblocks t a) (counted-reservation (Some x) (leave x s) (counted-leave x s h)))
 
     counted_failed : (t : TaskId) → MayTick t s → Counted n (fail_try t s)
     counted_failed t l =
@@ -177,12 +177,12 @@ module _ (n : ℕ) where
     unfolding drop_work
     counted-drop Leaving t x k =
         by_drop-queued (λ g. Counted n g.state) x s (counted-scan (leave x s) (counted-leave x s h)) (λ e. counted-leave x s h)
-    counted-drop Unreserving t x k = counted_wake (with_reservation none s) (counted-reservation none s h)
+    counted-drop Unreserving t x k = counted_wake (with_reservation None s) (counted-reservation None s h)
     counted-drop Returning t x k = counted-release t (asked_at x s) k
     counted-drop Nothing t x k = h
 
   counted-free : (x : Slot) (s : State) → Counted n s → Counted n (free x s)
-  counted-free x s h = counted-slots n (free x s) s refl refl (each_set (SlotFits n) s.slots x.0 none h.requests tt) h
+  counted-free x s h = counted-slots n (free x s) s refl refl (each_set (SlotFits n) s.slots x.0 None h.requests tt) h
 
   counted-empty : (q : List Slot) (s : State) → Counted n s → Counted n (empty_queue q s)
   unfolding empty_queue
@@ -196,8 +196,8 @@ module _ (n : ℕ) where
       record { number = k.number; permits = k.permits; tasks = k.tasks; requests = k.requests })
     where
       go : (o : Option Slot) {b : State} → Counted n b → Counted n (drop_reservation o b)
-      go none k = k
-      go (some x) {b} k = counted-roused n (rouse_unfinished x (with_reservation none b)) (counted-reservation none b k)
+      go None k = k
+      go (Some x) {b} k = counted-roused n (rouse_unfinished x (with_reservation None b)) (counted-reservation None b k)
 
   counted_act : (t : TaskId) (a : Act) (s : State) → t.0 < n → Allowed t a s → ActFits a → Counted n s → Counted n (effect_of t a s).state
   unfolding poll drop_request
@@ -260,8 +260,8 @@ rows_fit n (suc k) rows w e h =
 batches-fit : (n : ℕ) (ts : List Task) (o : Option TaskId) → n ≤ largest → Each (λ (a : Task). ClockFits a.clock) ts
     → Each BatchFits (set_up_batches (fresh_batches n ts o))
 unfolding fresh_batches
-batches-fit n ts none l h = tt
-batches-fit n ts (some t) l h = first_fits n _ l (each_at (λ (a : Task). ClockFits a.clock) ts t.0 no_task h empty-fits)
+batches-fit n ts None l h = tt
+batches-fit n ts (Some t) l h = first_fits n _ l (each_at (λ (a : Task). ClockFits a.clock) ts t.0 no_task h empty-fits)
 
 pub fitting_fresh : (a : Start) → refuses12 a ≡ false → StartFits a → Fitting a.tasks (fresh a)
 unfolding fresh
@@ -275,7 +275,7 @@ fitting_fresh a e f =
             number = fresh-number a.tasks a.tasks a.clocks;
             permits = record { stock = f.stock; batches = batches-fit a.stock _ a.maker f.stock ts; last = empty-fits };
             tasks = ts;
-            requests = each_replicate (SlotFits a.tasks) slot_count none tt;
+            requests = each_replicate (SlotFits a.tasks) slot_count None tt;
           };
     }
 
@@ -285,8 +285,8 @@ batch_number : (p : Permits) → SoundPermits p → length (set_up_batches p.bat
 batch_number p h = go p.batches refl
   where
     go : (o : Option (List Batch)) → p.batches ≡ o → length (set_up_batches o) ≤ batch_count
-    go none e = omega arith
-    go (some bs) e = (h bs e).room
+    go None e = omega arith
+    go (Some bs) e = (h bs e).room
 
 pub counts-fit : (n : ℕ) (s : State) → Fitting n s → CountsFit s
 counts-fit n s h =

@@ -1,10 +1,10 @@
 -- Each change of a request, of the queue and of the reservation that the rules make keeps a state sound.
+use Rattle.std.specs.Prelude.{Option, None, Some, unwrap_or}
 use Prim.Native.Nat.{ℕ, ◌<◌}
 use native.Mathlib.Omega.{arith}
 use mathlib.Core.Path.{◌≡◌, refl, sym, ap, subst, ◌∙◌}
 use mathlib.Core.Bool.{true, false, false≢true}
 use mathlib.Core.List.{List, [], ◌∷◌, ◌++◌}
-use mathlib.Core.Option.{Option, none, some, get_or}
 use lib.ListN.{length, set, length-set}
 use Rattle.rules.specs.declared.TaskId.{TaskId}
 use Rattle.rules.specs.declared.Slot.{Slot}
@@ -78,9 +78,9 @@ altered_only x f s h =
     }
 
 -- a slot that has not the reservation is not the one reserved
-not_the_one : (x : Slot) (o : Option Slot) → is_the x o ≡ false → o ≡ some x → {X : Type 0} → X
-not_the_one x none e r = let z : ◌≡◌ {A = ℕ} 0 1 = cc in absurd (omega arith)
-not_the_one x (some y) e r = let z : y ≡ x = cc in clash (slot_same x y (sym z)) e
+not_the_one : (x : Slot) (o : Option Slot) → is_the x o ≡ false → o ≡ Some x → {X : Type 0} → X
+not_the_one x None e r = let z : ◌≡◌ {A = ℕ} 0 1 = cc in absurd (omega arith)
+not_the_one x (Some y) e r = let z : y ≡ x = cc in clash (slot_same x y (sym z)) e
 
 -- A request that does not wait may hold, complete, and be of any task.
 pub sound_aside : (x : Slot) (f : Request → Request) (s : State)
@@ -247,7 +247,7 @@ queue-room x s m l h =
 pub sound-reserved : (x : Slot) (t : TaskId) (s : State)
     → in_use x s ≡ true → (request_at x s).ask.reserving ≡ true → (request_at x s).holding ≡ false → (request_at x s).completed ≡ false
     → s.closed ≡ false → t.0 < length s.tasks → Sound s
-    → Sound (alter_request x (polled_pending t) (with_reservation (some x) (leave x s)))
+    → Sound (alter_request x (polled_pending t) (with_reservation (Some x) (leave x s)))
 sound-reserved x t s u r g c o l h =
     sound_beside x a b (sound-leave x s h) (
     record {
@@ -267,7 +267,7 @@ sound-reserved x t s u r g c o l h =
       marked = mark ∙ sym (gone_without x s.queue h.once);
       reserves = λ e.
           record {
-            waits = waits-altered x (polled_pending t) (with_reservation (some x) a) (sound-leave x s h).slots used-left (
+            waits = waits-altered x (polled_pending t) (with_reservation (Some x) a) (sound-leave x s h).slots used-left (
                 record {
                   asks = omega (arith, (h.made x r).asks, ap (λ (q : Request). q.ask.asked) left);
                   holding = ap (λ (q : Request). q.holding) left ∙ g;
@@ -292,7 +292,7 @@ sound-reserved x t s u r g c o l h =
     a = leave x s
 
     b : State
-    b = alter_request x (polled_pending t) (with_reservation (some x) a)
+    b = alter_request x (polled_pending t) (with_reservation (Some x) a)
 
     left : request_at x a ≡ queued_as false (request_at x s)
     left = request-altered x (queued_as false) s u
@@ -328,7 +328,7 @@ module _ (x : Slot) (o : Option Request) (s : State) where
 
   -- what is put there waits for nothing, and is well made if it reserves
   pub sound_filled : x.0 < slot_count → member x s.queue ≡ false → has_reservation x s ≡ false
-      → (get_or o no_request).queued ≡ false → ((get_or o no_request).ask.reserving ≡ true → MayMake (get_or o no_request).ask s)
+      → (unwrap_or o no_request).queued ≡ false → ((unwrap_or o no_request).ask.reserving ≡ true → MayMake (unwrap_or o no_request).ask s)
       → Sound s → Sound filled
   sound_filled l m v q w h =
       sound_beside x s filled h (filled_only h) (
@@ -346,20 +346,20 @@ module _ (x : Slot) (o : Option Request) (s : State) where
       }
       )
     where
-      read : {A : Type 0} (g : Request → A) → g (request_at x filled) ≡ g (get_or o no_request)
-      read g = ap (λ (p : Option Request). g (get_or p no_request)) (slot-set x o s (omega (arith, h.slots)))
+      read : {A : Type 0} (g : Request → A) → g (request_at x filled) ≡ g (unwrap_or o no_request)
+      read g = ap (λ (p : Option Request). g (unwrap_or p no_request)) (slot-set x o s (omega (arith, h.slots)))
 
 pub sound-free : (x : Slot) (s : State) → x.0 < slot_count → member x s.queue ≡ false → has_reservation x s ≡ false → Sound s → Sound (free x s)
-sound-free x s l m v h = sound_filled x none s l m v refl (λ e. absurd (false≢true e)) h
+sound-free x s l m v h = sound_filled x None s l m v refl (λ e. absurd (false≢true e)) h
 
 -- Who is not queued, and who has not the reservation.
 
-pub has_reservation_lem : (x : Slot) (s : State) → has_reservation x s ≡ true → s.reservation ≡ some x
+pub has_reservation_lem : (x : Slot) (s : State) → has_reservation x s ≡ true → s.reservation ≡ Some x
 has_reservation_lem x s e = go s.reservation e
   where
-    go : (o : Option Slot) → is_the x o ≡ true → o ≡ some x
-    go none f = absurd (false≢true f)
-    go (some y) f = ap (λ (z : Slot). some z) (sym (same-slot x y f))
+    go : (o : Option Slot) → is_the x o ≡ true → o ≡ Some x
+    go None f = absurd (false≢true f)
+    go (Some y) f = ap (λ (z : Slot). Some z) (sym (same-slot x y f))
 
 pub not-reserved : (x : Slot) (s : State) → Sound s → (IsReserved s x → ⊥) → has_reservation x s ≡ false
 not-reserved x s h k = by_test (has_reservation x s) (λ e. absurd (k (h.reserves x (has_reservation_lem x s e)))) (λ e. e)
@@ -371,7 +371,7 @@ pub queued_unreserved : (x : Slot) (s : State) → Sound s → member x s.queue 
 queued_unreserved x s h m = not-reserved x s h (λ r. clash (h.marked x ∙ m) r.unqueued)
 
 -- Closing, once the queue and the reservation are empty.
-pub sound-close : (s : State) → s.queue ≡ [] → s.reservation ≡ none → Sound s → Sound (close s)
+pub sound-close : (s : State) → s.queue ≡ [] → s.reservation ≡ None → Sound s → Sound (close s)
 sound-close s q v h =
     sound_of (close s) (record { slots = h.slots; tasks = h.tasks; once = h.once; closed = λ e. (q, v); permits = h.permits })
     (λ x. sound_alike (record { fairness = refl; tasks = refl; slot = refl; members = refl; reserved = λ e. e }) (sound_at s h x))

@@ -1,10 +1,10 @@
 -- A scan keeps a state sound. One principle goes along the walk, and one record holds what is so at each of its turns: who has been passed.
+use Rattle.std.specs.Prelude.{Option, unwrap_or}
 use Prim.Native.Nat.{◌-◌, ◌≤◌, ◌<◌}
 use native.Mathlib.Omega.{arith}
 use mathlib.Core.Path.{◌≡◌, refl, sym, ap, subst, ◌∙◌}
 use mathlib.Core.Bool.{true, false, false≢true}
 use mathlib.Core.List.{List, [], ◌∷◌, ◌++◌, append_assoc}
-use mathlib.Core.Option.{Option, get_or}
 use borrow.Author.Tests.{leb-true, leb-false}
 use lib.Dec.{leb}
 use Rattle.rules.specs.declared.TaskId.{TaskId}
@@ -137,7 +137,7 @@ module _ (x : Slot) (q : List Slot) (s : State) (w : Walking (x ∷ q) s) where
   still_skipped b o l u y m =
       let k = w.skipped y m in
       let e = o y (member_apart x y w.passed apart m) in
-      let r : request_at y b ≡ request_at y s = ap (λ (p : Option Request). get_or p no_request) e in (
+      let r : request_at y b ≡ request_at y s = ap (λ (p : Option Request). unwrap_or p no_request) e in (
         u (task_of y b) (subst (λ (q : Request). is_finished (task_at q.task s).state ≡ false) (sym r) k.0),
         omega (arith, k.1, ap (λ (q : Request). q.ask.asked) r),
         ap (λ (q : Request). is_bypassable q.ask.kind) r ∙ k.2,

@@ -1,10 +1,10 @@
 -- Every accepted step keeps a state sound; so does every step and every run; and every fresh state is sound.
+use Rattle.std.specs.Prelude.{Option, None, Some, is_some}
 use Prim.Native.Nat.{ℕ, zero, suc, ◌≤◌, ◌<◌}
 use native.Mathlib.Omega.{arith}
 use mathlib.Core.Path.{◌≡◌, refl, sym, ap, subst, ◌∙◌}
 use mathlib.Core.Bool.{Bool, true, false, cond, not, ◌&&◌, ◌||◌}
 use mathlib.Core.List.{List, [], ◌∷◌}
-use mathlib.Core.Option.{Option, none, some}
 use lib.Dec.{eqb}
 use lib.ListN.{length, get_or, drop, replicate, length-set}
 use Rattle.rules.specs.declared.TaskId.{TaskId}
@@ -22,7 +22,7 @@ use Rattle.rules.specs.declared.Step.{Step}
 use Rattle.rules.specs.Sizes.{max_tasks, slot_count}
 use Rattle.rules.specs.Task.{Task, no_task, ticked, slept, finished}
 use Rattle.rules.specs.Request.{Request, queued_as, polled_pending, polled_granted, polled_closed}
-use Rattle.rules.specs.State.{Batch, State, stock, is_some, is_the, has_reservation, in_use, request_at, asked_at, task_of, owner_finished, unblock_and_wake, with_queue, with_reservation, alter_request, close}
+use Rattle.rules.specs.State.{Batch, State, stock, is_the, has_reservation, in_use, request_at, asked_at, task_of, owner_finished, unblock_and_wake, with_queue, with_reservation, alter_request, close}
 use Rattle.rules.specs.Taking.{take_as, direct}
 use Rattle.rules.specs.Scan.{without, leave}
 use Rattle.rules.specs.Waking.{wake_unfair, reblock}
@@ -51,11 +51,11 @@ use Rattle.rules.proofs.Decisions.{DirectSays, direct-says, Queueing, PollSays, 
 -- Make.
 
 -- the lowest free slot is free
-pub lowest_free_lem : (rs : List (Option Request)) → get_or rs (lowest_free rs) none ≡ none
+pub lowest_free_lem : (rs : List (Option Request)) → get_or rs (lowest_free rs) None ≡ None
 unfolding lowest_free
 lowest_free_lem [] = refl
-lowest_free_lem (none ∷ rs) = refl
-lowest_free_lem (some r ∷ rs) = lowest_free_lem rs
+lowest_free_lem (None ∷ rs) = refl
+lowest_free_lem (Some r ∷ rs) = lowest_free_lem rs
 
 -- the slot that a new request takes
 abbrev pub new_slot : State → Slot
@@ -123,7 +123,7 @@ module _ (t : TaskId) (x : Slot) (s : State) (l : t.0 < length s.tasks) (k : Pol
   sound-poll_by QueuesFront u = joining true _ u.0 (joins_front x s h (sym (h.marked x) ∙ u.0.unqueued))
   sound-poll_by TakesReserved u =
       let r = h.reserves x (has_reservation_lem x s (u.0.reservation u.1)) in
-      let a = with_reservation none s in
+      let a = with_reservation None s in
       let b = take_as t (asked_at x s) a in
       let n = no_more_then (no_more_take t (asked_at x s) a) (no_more_wake b) in
       granting (wake_unfair b) (sound_wake b (sound-take t (asked_at x s) a u.0.fits (sound_unreserved s h)))
@@ -136,7 +136,7 @@ module _ (t : TaskId) (x : Slot) (s : State) (l : t.0 < length s.tasks) (k : Pol
       ((no_more_roused r).queue x (gone_without x a.queue g.once))
       ((no_more_roused r).reservation x ((no_more_take t (asked_at x s) s).reservation x (unreserved u.reservation)))
   sound-poll_by Reserves u =
-      let r = reblocks t (with_reservation (some x) (leave x s)) in
+      let r = reblocks t (with_reservation (Some x) (leave x s)) in
       roused_keeps (λ b. Sound (alter_request x (polled_pending t) b)) r
       (sound-tasks r.tasks _ (roused-number r)
       (sound-reserved x t s k.used u.reserving u.holding k.completed u.«open» l h))
@@ -191,7 +191,7 @@ sound-drop_work Leaving t x s q k h =
         }
 sound-drop_work Unreserving t x s q k h =
     leavable_then (record { sound = sound_unreserved s h; unqueued = sym (h.marked x) ∙ q.0; unreserved = refl })
-    (sound_wake (with_reservation none s) (sound_unreserved s h)) (no_more_wake (with_reservation none s))
+    (sound_wake (with_reservation None s) (sound_unreserved s h)) (no_more_wake (with_reservation None s))
 sound-drop_work Returning t x s q k h =
     leavable_then (record { sound = h; unqueued = sym (h.marked x) ∙ q.0; unreserved = q.1 })
     (sound-release t (asked_at x s) s k h) (no_more_release t (asked_at x s) s)
@@ -219,8 +219,8 @@ empty-closed [] s = refl
 empty-closed (x ∷ q) s = ap (λ (b : State). empty_queue q b) (wake_closed x (leave x s)) ∙ empty-closed q (wake_unfinished x (leave x s))
 
 drop-closed : (o : Option Slot) (s : State) → drop_reservation o (close s) ≡ close (drop_reservation o s)
-drop-closed none s = refl
-drop-closed (some x) s = wake_closed x (with_reservation none s)
+drop-closed None s = refl
+drop-closed (Some x) s = wake_closed x (with_reservation None s)
 
 -- so closing is nothing if closed, and else emptying both, and then closing
 pub by_closing : (X : State → Type 0) (s : State)
@@ -247,11 +247,11 @@ empties (x ∷ q) s e h =
     record { sound = k.sound; queue = k.queue; reservation = k.reservation ∙ roused_keeps (λ b. b.reservation ≡ s.reservation) r refl }
 
 pub empties_reservation : (o : Option Slot) (s : State) → s.reservation ≡ o → s.queue ≡ [] → Sound s
-    → Sound (drop_reservation o s) × ((drop_reservation o s).queue ≡ []) × ((drop_reservation o s).reservation ≡ none)
-empties_reservation none s e q h = (h, q, e)
-empties_reservation (some x) s e q h =
-    let r = rouse_unfinished x (with_reservation none s) in
-    (sound-roused r (sound_unreserved s h), roused_keeps (λ b. b.queue ≡ []) r q, roused_keeps (λ b. b.reservation ≡ none) r refl)
+    → Sound (drop_reservation o s) × ((drop_reservation o s).queue ≡ []) × ((drop_reservation o s).reservation ≡ None)
+empties_reservation None s e q h = (h, q, e)
+empties_reservation (Some x) s e q h =
+    let r = rouse_unfinished x (with_reservation None s) in
+    (sound-roused r (sound_unreserved s h), roused_keeps (λ b. b.queue ≡ []) r q, roused_keeps (λ b. b.reservation ≡ None) r refl)
 
 pub sound-closing : (s : State) → Sound s → Sound (closing s)
 sound-closing s h =
@@ -280,20 +280,20 @@ sound_act t a s l k h =
     })
     a k
 
-pub sound-effect : (a : Step) (s : State) → refusal a s ≡ none → Sound s → Sound (effect a s).state
+pub sound-effect : (a : Step) (s : State) → refusal a s ≡ None → Sound s → Sound (effect a s).state
 sound-effect a s e h =
     let k = accepted a s e in
     sound_act a.actor a.act s k.actor k.allowed h
 
 -- what every accepted step keeps, every step keeps
 pub by_refusal : (X : Outcome → Type 0) (a : Step) (s : State)
-    → (refusal a s ≡ none → X (effect a s)) → ((n : ℕ) → refusal a s ≡ some n → X (quiet (refused n) s)) → X (step a s)
+    → (refusal a s ≡ None → X (effect a s)) → ((n : ℕ) → refusal a s ≡ Some n → X (quiet (refused n) s)) → X (step a s)
 unfolding step
 by_refusal X a s f g = go (refusal a s) refl
   where
     go : (o : Option ℕ) → refusal a s ≡ o → X (unless o a s)
-    go none e = f e
-    go (some n) e = g n e
+    go None e = f e
+    go (Some n) e = g n e
 
 pub sound-step : (a : Step) (s : State) → Sound s → Sound (step a s).state
 sound-step a s h = by_refusal (λ o. Sound o.state) a s (λ e. sound-effect a s e h) (λ n e. h)
@@ -315,16 +315,16 @@ fresh-number n zero rows = refl
 fresh-number n (suc k) rows = ap suc (fresh-number n k (drop n rows))
 
 -- no slot of a fresh state is in use
-no_request_lem : (n i : ℕ) (rs : List (Option Request)) → rs ≡ replicate n none → is_some (get_or rs i none) ≡ false
-no_request_lem n i rs e = ap (λ (l : List (Option Request)). is_some (get_or l i none)) e ∙ go n i
+no_request_lem : (n i : ℕ) (rs : List (Option Request)) → rs ≡ replicate n None → is_some (get_or rs i None) ≡ false
+no_request_lem n i rs e = ap (λ (l : List (Option Request)). is_some (get_or l i None)) e ∙ go n i
   where
-    go : (n i : ℕ) → is_some {A = Request} (get_or (replicate n none) i none) ≡ false
+    go : (n i : ℕ) → is_some {T = Request} (get_or (replicate n None) i None) ≡ false
     go zero i = refl
     go (suc n) zero = refl
     go (suc n) (suc i) = go n i
 
 -- nothing queued, nothing reserved, no slot in use
-pub sound_empty : (s : State) → s.slots ≡ replicate slot_count none → s.queue ≡ [] → s.reservation ≡ none
+pub sound_empty : (s : State) → s.slots ≡ replicate slot_count None → s.queue ≡ [] → s.reservation ≡ None
     → length s.tasks ≤ max_tasks → SoundPermits s.permits → Sound s
 sound_empty s e q v l p =
     sound_of s (
@@ -346,10 +346,10 @@ sound_empty s e q v l p =
       made = λ r. clash r (ap (λ (b : Request). b.ask.reserving) free);
     })
 
-fresh-permits : (n : ℕ) (ts : List Task) (o : Option TaskId) (bs : List Batch) → fresh_batches n ts o ≡ some bs → AddUp bs n
+fresh-permits : (n : ℕ) (ts : List Task) (o : Option TaskId) (bs : List Batch) → fresh_batches n ts o ≡ Some bs → AddUp bs n
 unfolding fresh_batches
-fresh-permits n ts none bs e = let z : ◌≡◌ {A = ℕ} 0 1 = cc in absurd (omega arith)
-fresh-permits n ts (some t) bs e =
+fresh-permits n ts None bs e = let z : ◌≡◌ {A = ℕ} 0 1 = cc in absurd (omega arith)
+fresh-permits n ts (Some t) bs e =
     let g : first_batch n (get_or ts t.0 no_task).clock ≡ bs = cc in
     subst (λ (l : List Batch). AddUp l n) g (first_adds_up n _)
 

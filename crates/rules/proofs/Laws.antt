@@ -1,11 +1,11 @@
 -- Laws that a wrong definition of a step, of available or of a question would fail.
+use Rattle.std.specs.Prelude.{Some}
 use Prim.Native.Nat.{ℕ, zero, suc, ◌+◌, ◌*◌, ◌-◌, ◌<◌}
 use native.Mathlib.Nat.{zero-mul, suc-mul}
 use native.Mathlib.Omega.{arith}
 use mathlib.Core.Path.{◌≡◌, refl, ◌∙◌}
 use mathlib.Core.Bool.{Bool, true, false, cond, not, ◌&&◌, ◌||◌}
 use mathlib.Core.List.{List, ◌∷◌, ◌++◌, map}
-use mathlib.Core.Option.{some}
 use borrow.Author.Tests.{lt-leb}
 use lib.ListN.{get_or, take, drop}
 use lib.Seq.{map-set_same, drop-drop}
@@ -34,7 +34,7 @@ use Rattle.rules.specs.Runs.{step, start}
 use Rattle.rules.proofs.Bools.{◌nor◌, not_both}
 
 -- A refused step returns its number, no grants, and the state exactly as it came in.
-pub refused-step : (a : Step) (s : State) (n : ℕ) → refusal a s ≡ some n → step a s ≡ quiet (refused n) s
+pub refused-step : (a : Step) (s : State) (n : ℕ) → refusal a s ≡ Some n → step a s ≡ quiet (refused n) s
 unfolding step
 refused-step a s n e = rw e
 

@@ -1,11 +1,11 @@
 -- How long the line of a step is. A step grants no slot twice and none beyond 31, so that ten of them have one digit at most and the others
 -- two: 85 bytes with the commas between.
+use Rattle.std.specs.Prelude.{Some}
 use Prim.Native.Nat.{ℕ, zero, suc, ◌+◌, ◌≤◌, ◌<◌}
 use native.Mathlib.Omega.{arith}
 use mathlib.Core.Path.{◌≡◌, refl, sym, subst, ap, ◌∙◌}
 use mathlib.Core.Bool.{Bool, true, false, cond, false≢true}
 use mathlib.Core.List.{List, [], ◌∷◌, ◌++◌, map}
-use mathlib.Core.Option.{some}
 use lib.ListN.{length, length-append}
 use borrow.Author.Tests.{eqb-false}
 use Rattle.rules.specs.declared.TaskId.{TaskId}
@@ -183,11 +183,11 @@ try_short NoPermits t n s = few-short _ (omega arith) (omega arith)
 try_short Take t n s = few-short _ (omega arith) (omega arith)
 
 -- a refusal's number is below 100
-first_below : (gs : List Ground) (n : ℕ) → Each (λ (g : Ground). g.number < 100) gs → first gs ≡ some n → n < 100
+first_below : (gs : List Ground) (n : ℕ) → Each (λ (g : Ground). g.number < 100) gs → first gs ≡ Some n → n < 100
 first_below [] n h e = let z : ◌≡◌ {A = ℕ} 0 1 = cc in absurd (omega arith)
 first_below (g ∷ gs) n h e = go g.given (first_below gs n h.1) e
   where
-    go : (b : Bool) → (first gs ≡ some n → n < 100) → cond b (some g.number) (first gs) ≡ some n → n < 100
+    go : (b : Bool) → (first gs ≡ Some n → n < 100) → cond b (Some g.number) (first gs) ≡ Some n → n < 100
     go true k e = let q : g.number ≡ n = cc in omega (arith, h.0)
     go false k e = k e
 
@@ -206,7 +206,7 @@ grounds-below t Close s = tt
 grounds-below t Sleep s = tt
 grounds-below t Finish s = tt
 
-refusal-below : (a : Step) (s : State) (n : ℕ) → refusal a s ≡ some n → n < 100
+refusal-below : (a : Step) (s : State) (n : ℕ) → refusal a s ≡ Some n → n < 100
 unfolding refusal
 refusal-below a s n e =
     first_below (1 if no_such_task a.actor s ∷ 2 if not_runnable a.actor s ∷ grounds a.actor a.act s) n (omega arith, (omega arith, grounds-below a.actor a.act s)) e

@@ -1,8 +1,8 @@
 -- Which number a step or a first line names makes no difference where it names nothing.
+use Rattle.std.specs.Prelude.{None, Some}
 use Prim.Native.Nat.{ℕ, ◌≤◌}
 use mathlib.Core.Path.{◌≡◌, refl, sym, ◌∙◌}
 use mathlib.Core.Bool.{Bool, true, false, cond, or-true}
-use mathlib.Core.Option.{none, some}
 use lib.ListN.{length, get_or-eq_default}
 use borrow.Author.Tests.{le-leb}
 use Rattle.rules.specs.declared.TaskId.{TaskId}
@@ -22,7 +22,7 @@ pub past_tasks : (t : TaskId) (s : State) → length s.tasks ≤ t.0 → no_such
 past_tasks t s h = le-leb (length s.tasks) t.0 h
 
 pub past_slots : (x : Slot) (s : State) → length s.slots ≤ x.0 → no_such_request x s ≡ true
-past_slots x s h = rw (get_or-eq_default s.slots none h)
+past_slots x s h = rw (get_or-eq_default s.slots None h)
 
 -- A step whose actor is no task is refused by 1, whatever it does.
 pub no_such_actor : (a : Step) (s : State) → no_such_task a.actor s ≡ true → step a s ≡ quiet (refused 1) s
@@ -36,7 +36,7 @@ same-actor a b s h k = no_such_actor a s h ∙ sym (no_such_actor b s k)
 met_first : Bool → Bool → ℕ
 met_first nobody stopped = cond nobody 1 (cond stopped 2 3)
 
-met : (nobody stopped : Bool) → cond nobody (some 1) (cond stopped (some 2) (some 3)) ≡ some (met_first nobody stopped)
+met : (nobody stopped : Bool) → cond nobody (Some 1) (cond stopped (Some 2) (Some 3)) ≡ Some (met_first nobody stopped)
 unfolding met_first
 met true stopped = refl
 met false true = refl
@@ -58,6 +58,6 @@ pub same_drop : (t : TaskId) (x y : Slot) (s : State) → no_such_request x s �
 same_drop t x y s h k = drop_met t x s h ∙ sym (drop_met t y s k)
 
 -- A start whose maker is no task is refused.
-pub no_such_maker : (a : Start) (t : TaskId) → a.maker ≡ some t → a.tasks ≤ t.0 → refuses12 a ≡ true
+pub no_such_maker : (a : Start) (t : TaskId) → a.maker ≡ Some t → a.tasks ≤ t.0 → refuses12 a ≡ true
 unfolding refuses12
 no_such_maker a t e h = rw (e, le-leb a.tasks t.0 h, or-true)

@@ -5,11 +5,11 @@
 -- Neighbours that no step meets together, so that nothing can tell their order: 1 and 2 (where there is no task, a Runnable one is read); 3 and 4 (where
 -- there is no request, one is read that has not completed); 4 and 6, 7 and 5, 5 and 8, 8 and 10 (no act has both). Nor, for the same two reasons, 1 and 11,
 -- 3 and 10, 3 and 9. 14 stands before all of them, over what is handed in.
+use Rattle.std.specs.Prelude.{Option, None, Some}
 use Prim.Native.Nat.{ℕ}
 use mathlib.Core.Path.{◌≡◌, refl}
 use mathlib.Core.Bool.{Bool, true, false, cond}
 use mathlib.Core.List.{List, [], ◌∷◌, map}
-use mathlib.Core.Option.{Option, none, some}
 use lib.ListN.{replicate}
 use Rattle.rules.specs.declared.TaskId.{TaskId}
 use Rattle.rules.specs.declared.Slot.{Slot}
@@ -50,8 +50,8 @@ abbrev pub met_by : Step → State → List ℕ
 met_by a s = numbers_given (1 if no_such_task a.actor s ∷ 2 if not_runnable a.actor s ∷ grounds a.actor a.act s)
 
 abbrev pub foremost : List ℕ → Option ℕ
-foremost [] = none
-foremost (n ∷ ns) = some n
+foremost [] = None
+foremost (n ∷ ns) = Some n
 
 -- States that only a caller can hand in. Task 0 is Runnable, task 1 has its own entry at the largest, task 2 sleeps; there is no task 9.
 
@@ -93,7 +93,7 @@ missing = record { 0 = 40 }
 
 abbrev asking : ℕ → Bool → Bool → Option Request
 asking n holds completes =
-    some (record { ask = plain_ask Back n; clock = zeros; task = able; queued = false; holding = holds; completed = completes; polled = false })
+    Some (record { ask = plain_ask Back n; clock = zeros; task = able; queued = false; holding = holds; completed = completes; polled = false })
 
 abbrev all_used : List (Option Request)
 all_used = asking 1 true false ∷ asking 0 false true ∷ asking 0 false false ∷ replicate 29 (asking 1 false false)
@@ -103,9 +103,9 @@ handed f n bs =
     record {
       fairness = f;
       closed = false;
-      permits = record { stock = n; batches = some bs; last = zeros };
+      permits = record { stock = n; batches = Some bs; last = zeros };
       queue = [];
-      reservation = none;
+      reservation = None;
       tasks = three;
       slots = all_used;
     }

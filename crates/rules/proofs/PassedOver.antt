@@ -1,11 +1,11 @@
 -- Who is passed over: watching a step's grants changes none of them, and at each of them only Bypassable requests of unfinished tasks that ask for
 -- more than the stock stand ahead in the queue.
+use Rattle.std.specs.Prelude.{Option, None, Some}
 use Prim.Native.Nat.{ℕ}
 use native.Mathlib.Omega.{arith}
 use mathlib.Core.Path.{◌≡◌, refl, sym, ap, subst, ◌∙◌}
 use mathlib.Core.Bool.{Bool, true, false, cond, ◌&&◌, ◌||◌}
 use mathlib.Core.List.{List, [], ◌∷◌, ◌++◌, map}
-use mathlib.Core.Option.{Option, none, some}
 use lib.Dec.{eqb}
 use Rattle.rules.specs.declared.TaskId.{TaskId}
 use Rattle.rules.specs.declared.Slot.{Slot}
@@ -121,8 +121,8 @@ unfolding step
 watches_step a s = go (refusal a s) refl
   where
     go : (o : Option ℕ) → refusal a s ≡ o → grants_of (if_accepted o (watch_act a.actor a.act s) []) ≡ (unless o a s).grants
-    go none e = watches_act a.actor a.act s (accepted a s e).allowed
-    go (some n) e = refl
+    go None e = watches_act a.actor a.act s (accepted a s e).allowed
+    go (Some n) e = refl
 
 -- for each step of a run, the grants that it returned
 pub watches_run : (as' : List Step) (s : State) → map grants_of (watch_run as' s) ≡ map (λ (o : Said). o.grants) (run as' s).said
@@ -220,8 +220,8 @@ module _ (s : State) (v : Served s) where
       a k
 
   step-watched : (a : Step) (o : Option ℕ) → refusal a s ≡ o → PassesOnlySuch a (if_accepted o (watch_act a.actor a.act s) [])
-  step-watched a none e = act_watched a.actor a.act (accepted a s e).allowed
-  step-watched a (some n) e = tt
+  step-watched a None e = act_watched a.actor a.act (accepted a s e).allowed
+  step-watched a (Some n) e = tt
 
 pub run-watched : (as' : List Step) (s : State) → Served s → EachPair PassesOnlySuch as' (watch_run as' s)
 unfolding watch_run

@@ -1,10 +1,10 @@
 -- Demand 3, proved: six promises about every run from an accepted fresh state, made by `new` or by `const_new`, with any starting clocks.
 -- `steps` is any list of steps, accepted and refused mixed, of any actors and any numbers: so each promise holds after every call of every run.
+use Rattle.std.specs.Prelude.{Some}
 use Prim.Native.Nat.{◌+◌}
 use mathlib.Core.Path.{◌≡◌, refl}
 use mathlib.Core.Bool.{false}
 use mathlib.Core.List.{List, [], ◌∷◌, ◌++◌, map}
-use mathlib.Core.Option.{some}
 use Rattle.rules.specs.declared.Fairness.TheVariants.{StrictlyFair}
 use Rattle.rules.specs.declared.Step.{Step}
 use Rattle.rules.specs.State.{Batch, State, stock}
@@ -32,7 +32,7 @@ module _ (start : Start) (accepted : refuses12 start ≡ false) (steps : List St
   conservation = run_balance steps (fresh start) (sound-fresh start accepted)
 
   -- 2. Batches: once set up they add up to the stock; never more than 64; none of 0.
-  pub batches : (bs : List Batch) → (run steps (fresh start)).state.permits.batches ≡ some bs → AddUp bs (stock (run steps (fresh start)).state)
+  pub batches : (bs : List Batch) → (run steps (fresh start)).state.permits.batches ≡ Some bs → AddUp bs (stock (run steps (fresh start)).state)
   batches = (sound-run steps (fresh start) (sound-fresh start accepted)).permits
 
   -- 3. Nobody is stranded: on a strictly fair semaphore each queued request up to and including the first that is not Bypassable asks for more than

@@ -1,18 +1,18 @@
 -- A state is sound exactly when 14 does not refuse it.
+use Rattle.std.specs.Prelude.{Option, None, Some, is_some}
 use Prim.Native.Nat.{◌<◌}
 use native.Mathlib.Omega.{arith}
 use native.Mathlib.Decide.{dec_lt}
 use mathlib.Core.Path.{◌≡◌, refl, sym, ap, subst, ◌∙◌}
 use mathlib.Core.Bool.{Bool, true, false, not, ◌&&◌, ◌||◌, true≢false}
 use mathlib.Core.List.{List, [], ◌∷◌}
-use mathlib.Core.Option.{Option, none, some}
 use borrow.Author.Tests.{ltb-false, leb-false, eqb-true, le-ltb, lt-leb, eq-eqb, not-false}
 use lib.Dec.{ltb, eqb}
 use lib.ListN.{length}
 use Rattle.rules.specs.declared.Slot.{Slot}
 use Rattle.rules.specs.Sizes.{max_tasks, slot_count, batch_count}
 use Rattle.rules.specs.Request.{Request}
-use Rattle.rules.specs.State.{Batch, State, strict, stock, is_some, reserved, in_use, request_at, asked_at, least_at, task_of}
+use Rattle.rules.specs.State.{Batch, State, strict, stock, reserved, in_use, request_at, asked_at, least_at, task_of}
 use Rattle.rules.specs.Refusals.{bad_reserving}
 use Rattle.rules.specs.Broken.{any_of, member, twice, every_slot, reserved_slots, set_up_batches, total, is_beyond, is_free, is_mis_marked, cannot_reserve, is_mis_made, asks_nothing, cannot_wait, is_empty_batch, differs, non_empty, broken}
 use Rattle.rules.specs.Sound.{Waits, IsReserved, WellMade, SoundPermits, Sound}
@@ -116,10 +116,10 @@ module _ (s : State) (n : length s.slots ≡ slot_count) (c : Clauses s) where
         | no l ↦ clash r (ap (λ (q : Request). q.ask.reserving) (free-request x s (past_unused x s n (omega arith))))
       ]
 
-  reserved_one : (p : Slot → Bool) (x : Slot) → any_of p (reserved_slots s.reservation) ≡ false → s.reservation ≡ some x → p x ≡ false
+  reserved_one : (p : Slot → Bool) (x : Slot) → any_of p (reserved_slots s.reservation) ≡ false → s.reservation ≡ Some x → p x ≡ false
   reserved_one p x f e = (none_of p x [] (subst (λ (o : Option Slot). any_of p (reserved_slots o) ≡ false) e f)).0
 
-  reserves : (x : Slot) → s.reservation ≡ some x → IsReserved s x
+  reserves : (x : Slot) → s.reservation ≡ Some x → IsReserved s x
   reserves x e =
       let k = neither _ _ (reserved_one (cannot_reserve s) x c.reserves e) in
       let u = neither (not (in_use x s)) (request_at x s).queued k.0 in
@@ -141,9 +141,9 @@ module _ (s : State) (n : length s.slots ≡ slot_count) (c : Clauses s) where
       ap (λ (r : Request). r.queued) (free-request x s u)
       ∙ by_test (member x s.queue) (λ m. clash (queued x m).used u) (λ m. sym m))
 
-  both_empty : (q : List Slot) (o : Option Slot) → (non_empty q || is_some o) ≡ false → (q ≡ []) × (o ≡ none)
-  both_empty [] none e = (refl, refl)
-  both_empty [] (some x) e = absurd (true≢false e)
+  both_empty : (q : List Slot) (o : Option Slot) → (non_empty q || is_some o) ≡ false → (q ≡ []) × (o ≡ None)
+  both_empty [] None e = (refl, refl)
+  both_empty [] (Some x) e = absurd (true≢false e)
   both_empty (y ∷ q) o e = absurd (true≢false e)
 
   permits : SoundPermits s.permits
@@ -179,8 +179,8 @@ module _ (s : State) (h : Sound s) where
   fails_reserved : (p : Slot → Bool) → ((x : Slot) → IsReserved s x → p x ≡ false)
       → (o : Option Slot) → s.reservation ≡ o → any_of p (reserved_slots o) ≡ false
   unfolding any_of
-  fails_reserved p f none e = refl
-  fails_reserved p f (some x) e = f x (h.reserves x e) nor refl
+  fails_reserved p f None e = refl
+  fails_reserved p f (Some x) e = f x (h.reserves x e) nor refl
 
   fails_queued : (p : Slot → Bool) → ((x : Slot) → Waits s x → p x ≡ false) → any_of p s.queue ≡ false
   fails_queued p f = no_member p s.queue (λ x m. f x (h.queued x m))
@@ -204,8 +204,8 @@ module _ (s : State) (h : Sound s) where
   batches_add_up : (o : Option (List Batch)) → s.permits.batches ≡ o
       → (ltb batch_count (length (set_up_batches o)) ≡ false) × (any_of is_empty_batch (set_up_batches o) ≡ false) × (differs (stock s) o ≡ false)
   unfolding any_of
-  batches_add_up none e = (refl, refl, refl)
-  batches_add_up (some bs) e =
+  batches_add_up None e = (refl, refl, refl)
+  batches_add_up (Some bs) e =
       let a = h.permits bs e in
       (le-ltb batch_count (length bs) a.room, a.sizes, is_not-not _ (eq-eqb (total bs) (stock s) a.sum))
 

@@ -1,8 +1,8 @@
 -- Document 01, "Runs to prove and to try": the starred ones, as one list with one proof. Two tasks, zero clocks, `new`, made by task 0.
+use Rattle.std.specs.Prelude.{Option, None, Some}
 use Prim.Native.Nat.{ℕ}
 use mathlib.Core.Path.{◌≡◌, refl}
 use mathlib.Core.List.{List, [], ◌∷◌, ◌++◌, map}
-use mathlib.Core.Option.{Option, none, some}
 use lib.ListN.{take, replicate}
 use Rattle.rules.specs.declared.TaskId.{TaskId}
 use Rattle.rules.specs.declared.Slot.{Slot}
@@ -47,7 +47,7 @@ takers (x ∷ xs) = map (λ (g : Grant). g.taker) x.grants ++ takers xs
 
 unfoldable pub seen : Case → Seen
 seen c =
-    let zeros : Start = record { fairness = c.fairness; stock = c.stock; tasks = 2; clocks = replicate 4 0; maker = some (record { 0 = 0 }) } in
+    let zeros : Start = record { fairness = c.fairness; stock = c.stock; tasks = 2; clocks = replicate 4 0; maker = Some (record { 0 = 0 }) } in
     let r = run c.steps (start zeros).state in
     record {
       answers = map (λ (x : Said). x.answer) r.said;
@@ -125,7 +125,7 @@ wanted =
       available = 0;
       stock = 0;
       queue = [];
-      reservation = none;
+      reservation = None;
       clocks = (1 ∷ 0 ∷ []) ∷ (0 ∷ 0 ∷ []) ∷ [];
     }
     -- K2 none, granted
@@ -135,7 +135,7 @@ wanted =
       available = 0;
       stock = 0;
       queue = [];
-      reservation = none;
+      reservation = None;
       clocks = (2 ∷ 0 ∷ []) ∷ (0 ∷ 0 ∷ []) ∷ [];
     }
     -- K3 Closed, 5
@@ -145,7 +145,7 @@ wanted =
       available = 0;
       stock = 0;
       queue = [];
-      reservation = none;
+      reservation = None;
       clocks = zero-clocks;
     }
     -- K3 5, 5
@@ -155,7 +155,7 @@ wanted =
       available = 0;
       stock = 0;
       queue = [];
-      reservation = none;
+      reservation = None;
       clocks = zero-clocks;
     }
     -- K6 grants slot 1
@@ -165,7 +165,7 @@ wanted =
       available = 0;
       stock = 0;
       queue = x0 ∷ [];
-      reservation = none;
+      reservation = None;
       clocks = (1 ∷ 0 ∷ []) ∷ (0 ∷ 0 ∷ []) ∷ [];
     }
     -- K7 grants only the second; stock 1
@@ -175,7 +175,7 @@ wanted =
       available = 1;
       stock = 1;
       queue = x0 ∷ x2 ∷ [];
-      reservation = none;
+      reservation = None;
       clocks = (1 ∷ 0 ∷ []) ∷ (0 ∷ 0 ∷ []) ∷ [];
     }
     -- K8 Pending, reserved, queue empty
@@ -185,7 +185,7 @@ wanted =
       available = 0;
       stock = 0;
       queue = [];
-      reservation = some x0;
+      reservation = Some x0;
       clocks = zero-clocks;
     }
     -- K9 available 0, stock 1, try 1 none
@@ -195,7 +195,7 @@ wanted =
       available = 0;
       stock = 1;
       queue = [];
-      reservation = some x0;
+      reservation = Some x0;
       clocks = (2 ∷ 0 ∷ []) ∷ (0 ∷ 0 ∷ []) ∷ [];
     }
     -- K9 granted, stock 0
@@ -205,7 +205,7 @@ wanted =
       available = 0;
       stock = 0;
       queue = [];
-      reservation = none;
+      reservation = None;
       clocks = (4 ∷ 0 ∷ []) ∷ (0 ∷ 0 ∷ []) ∷ [];
     }
     -- K15 its clock is (1, 1)
@@ -215,7 +215,7 @@ wanted =
       available = 0;
       stock = 0;
       queue = [];
-      reservation = none;
+      reservation = None;
       clocks = (1 ∷ 0 ∷ []) ∷ (1 ∷ 1 ∷ []) ∷ [];
     }
     ∷ []

@@ -1,11 +1,11 @@
 -- Nobody is stranded: on a strictly fair semaphore, after every step, each queued request up to and including the first that is not Bypassable
 -- asks for more than the stock.
+use Rattle.std.specs.Prelude.{Option, None, Some, unwrap_or, is_some}
 use Prim.Native.Nat.{ℕ, ◌≤◌, ◌<◌}
 use native.Mathlib.Omega.{arith}
 use mathlib.Core.Path.{◌≡◌, refl, sym, ap, subst, ◌∙◌}
 use mathlib.Core.Bool.{Bool, true, false, cond, not, ◌&&◌, ◌||◌}
 use mathlib.Core.List.{List, [], ◌∷◌, ◌++◌}
-use mathlib.Core.Option.{Option, none, some, get_or}
 use borrow.Author.Tests.{leb-false}
 use Rattle.rules.specs.declared.TaskId.{TaskId}
 use Rattle.rules.specs.declared.Slot.{Slot}
@@ -22,7 +22,7 @@ use Rattle.rules.specs.declared.Dropping.TheVariants.{Leaving, Unreserving, Retu
 use Rattle.rules.specs.declared.Act.{Act}
 use Rattle.rules.specs.declared.Step.{Step}
 use Rattle.rules.specs.Request.{Request, no_request, queued_as, polled_granted, polled_closed, polled_pending, is_bypassable}
-use Rattle.rules.specs.State.{State, is_strict, strict, stock, is_some, is_the, same_slot, request_at, asked_at, with_queue, alter_request, close}
+use Rattle.rules.specs.State.{State, is_strict, strict, stock, is_the, same_slot, request_at, asked_at, with_queue, alter_request, close}
 use Rattle.rules.specs.Fresh.{Start, fresh, refuses12}
 use Rattle.rules.specs.Taking.{take_as, taking, direct, all_bypassable}
 use Rattle.rules.specs.Scan.{without, leave, walk, scan}
@@ -147,12 +147,12 @@ pub taker-unqueued : {s : State} (v : Served s) (x : Slot) → Taking false x s 
 taker-unqueued {s} v x k =
     by_test (request_at x s).queued (λ q. clash (ap (λ (b : Bool). b && strict s) q ∙ v.strictly) (k.plain (plain v x))) (λ q. q)
 
-no_reservation : {s : State} → Served s → s.reservation ≡ none
+no_reservation : {s : State} → Served s → s.reservation ≡ None
 no_reservation {s} v = go s.reservation refl
   where
-    go : (o : Option Slot) → s.reservation ≡ o → o ≡ none
-    go none e = refl
-    go (some x) e = clash (v.sound.reserves x e).reserving (plain v x)
+    go : (o : Option Slot) → s.reservation ≡ o → o ≡ None
+    go None e = refl
+    go (Some x) e = clash (v.sound.reserves x e).reserving (plain v x)
 
 -- the queue and the asks in it as they were, and the stock no larger
 record Quieter (s b : State) : Type 0 where
@@ -192,7 +192,7 @@ quieter_filled x o s m =
     record {
       queue = refl;
       asks = λ y e.
-          ap (λ (p : Option Request). (get_or p no_request).ask)
+          ap (λ (p : Option Request). (unwrap_or p no_request).ask)
           (slot_beside x y o s (member_apart x y s.queue m e));
       stock = omega arith;
     }
@@ -284,7 +284,7 @@ module _ (s : State) (v : Served s) where
         drops =
             λ x u r.
             let d = sound-drop_work (dropping x s) t x s (drop-says x s) r v.sound in
-            quieter_serves (quieter_filled x none (drop_work (dropping x s) t x s).state d.unqueued) (drop_serves (dropping x s) t x (drop-says x s) r);
+            quieter_serves (quieter_filled x None (drop_work (dropping x s) t x s).state d.unqueued) (drop_serves (dropping x s) t x (drop-says x s) r);
         closes = closing_serves;
         sleeps = quieter_serves (record { queue = refl; asks = λ y m. refl; stock = omega arith }) v.nobody;
         finishes = quieter_serves (record { queue = refl; asks = λ y m. refl; stock = omega arith }) v.nobody;

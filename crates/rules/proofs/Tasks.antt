@@ -1,11 +1,11 @@
 -- What changes of tasks leave as it was: a task's state and mark are no part of the rest, and waking and reblocking change nothing else.
+use Rattle.std.specs.Prelude.{Option, None, Some}
 use Prim.Native.Nat.{ℕ}
 use native.Mathlib.Omega.{arith}
 use native.Mathlib.Decide.{dec_lt}
 use mathlib.Core.Path.{◌≡◌, refl, sym, ap, subst, ◌∙◌}
 use mathlib.Core.Bool.{not, ◌&&◌}
 use mathlib.Core.List.{List, [], ◌∷◌, map}
-use mathlib.Core.Option.{Option, none, some}
 use borrow.Author.Tests.{eqb-true, eqb-false}
 use lib.Dec.{eqb, leb}
 use lib.ListN.{length, get_or, set, length-map}
@@ -84,16 +84,16 @@ rouse_each (x ∷ q) s =
     (rouse_each q _)
 
 pub rouse_by : (o : Option Slot) (s : State) → Roused s (wake_by o s)
-rouse_by none s = rouse_each s.queue s
-rouse_by (some x) s = by_cond (Roused s) (leb (asked_at x s) (stock s)) (λ e. rouse_awake (task_of x s) s) (λ e. roused_none s)
+rouse_by None s = rouse_each s.queue s
+rouse_by (Some x) s = by_cond (Roused s) (leb (asked_at x s) (stock s)) (λ e. rouse_awake (task_of x s) s) (λ e. roused_none s)
 
 -- a reservation cleared, or not
-pub by_cleared : (X : State → Type 0) (s : State) → X s → X (with_reservation none s) → X (clear_finished s)
+pub by_cleared : (X : State → Type 0) (s : State) → X s → X (with_reservation None s) → X (clear_finished s)
 by_cleared X s h k = go s.reservation
   where
     go : (o : Option Slot) → X (cleared_if o s)
-    go none = h
-    go (some x) = by_cond X (owner_finished x s) (λ e. k) (λ e. h)
+    go None = h
+    go (Some x) = by_cond X (owner_finished x s) (λ e. k) (λ e. h)
 
 -- waking the unfair, after clearing the reservation of a finished task
 pub rouse_unfair : (s : State) → Roused (clear_finished s) (wake_unfair s)

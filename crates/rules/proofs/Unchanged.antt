@@ -1,8 +1,8 @@
 -- What is left alone: the permits by waking, reblocking and closing; and the fairness by every step.
+use Rattle.std.specs.Prelude.{Option, None, Some}
 use Prim.Native.Nat.{ℕ}
 use mathlib.Core.Path.{◌≡◌, refl, ◌∙◌}
 use mathlib.Core.List.{List, [], ◌∷◌}
-use mathlib.Core.Option.{Option, none, some}
 use Rattle.rules.specs.declared.TaskId.{TaskId}
 use Rattle.rules.specs.declared.Slot.{Slot}
 use Rattle.rules.specs.declared.Grant.{Grant}
@@ -59,10 +59,10 @@ untouched_closing s =
     record { fairness = k.fairness; permits = k.permits })
   where
     go : (o : Option Slot) → Untouched (empty_queue s.queue s) (drop_reservation o (empty_queue s.queue s))
-    go none = untouched (empty_queue s.queue s)
-    go (some x) =
+    go None = untouched (empty_queue s.queue s)
+    go (Some x) =
         untouched_then (record { fairness = refl; permits = refl })
-        (untouched_roused (rouse_unfinished x (with_reservation none (empty_queue s.queue s))))
+        (untouched_roused (rouse_unfinished x (with_reservation None (empty_queue s.queue s))))
 
 -- Fairness.
 
@@ -95,10 +95,10 @@ fairness-poll Stays t x s = refl
 fairness-poll QueuesBack t x s = refl
 fairness-poll QueuesFront t x s = refl
 fairness-poll TakesReserved t x s =
-    let a = with_reservation none s in
+    let a = with_reservation None s in
     (untouched_wake (take_as t (asked_at x s) a)).fairness ∙ fairness-take t (asked_at x s) a
 fairness-poll Takes t x s = (untouched_roused (reblocks t (leave x (take_as t (asked_at x s) s)))).fairness ∙ fairness-take t (asked_at x s) s
-fairness-poll Reserves t x s = (untouched_roused (reblocks t (with_reservation (some x) (leave x s)))).fairness
+fairness-poll Reserves t x s = (untouched_roused (reblocks t (with_reservation (Some x) (leave x s)))).fairness
 
 fairness_try : (d : Direct) (t : TaskId) (n : ℕ) (s : State) → (try_by d t n s).state.fairness ≡ s.fairness
 unfolding try_by
@@ -114,7 +114,7 @@ fairness-release t n s =
 pub fairness-drop : (d : Dropping) (t : TaskId) (x : Slot) (s : State) → (drop_work d t x s).state.fairness ≡ s.fairness
 unfolding drop_work
 fairness-drop Leaving t x s = by_drop-queued (λ g. g.state.fairness ≡ s.fairness) x s (fairness-scan (leave x s)) (λ e. refl)
-fairness-drop Unreserving t x s = (untouched_wake (with_reservation none s)).fairness
+fairness-drop Unreserving t x s = (untouched_wake (with_reservation None s)).fairness
 fairness-drop Returning t x s = fairness-release t (asked_at x s) s
 fairness-drop Nothing t x s = refl
 

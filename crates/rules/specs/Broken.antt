@@ -1,9 +1,8 @@
 -- Document 01, "Replies by number", row 14: what is broken in what is handed in. `broken` judges the state that the words handed in stand for. Words that
 -- stand for no state (a count past the size of its array, a kind, a task's state or a mark that no case has, an array of another length) are judged
 -- before it, by a clause of the code's own.
-use Rattle.std.specs.Prelude.{ℕ, zero, suc, ◌+◌, Bool, true, false, not, ◌&&◌, ◌||◌, List, [], ◌∷◌, leb, ltb, eqb, length}
+use Rattle.std.specs.Prelude.{ℕ, zero, suc, ◌+◌, Bool, true, false, not, ◌&&◌, ◌||◌, List, [], ◌∷◌, leb, ltb, eqb, length, Option, None, Some}
 use Rattle.std.specs.Bool.{beq}
-use Rattle.std.proofs.Math.Option.{Option, none, some}
 use Rattle.rules.specs.declared.Slot.{Slot}
 use Rattle.rules.specs.Sizes.{max_tasks, slot_count, batch_count}
 use Rattle.rules.specs.State.{Batch, State, strict, stock, reserved, same_slot, in_use, request_at, asked_at, least_at, task_of}
@@ -33,13 +32,13 @@ every_slot = slots_from slot_count 0
 
 -- the slots that the reservation names
 abbrev pub reserved_slots : Option Slot → List Slot
-reserved_slots none = []
-reserved_slots (some x) = x ∷ []
+reserved_slots None = []
+reserved_slots (Some x) = x ∷ []
 
 -- the batches, none where they are not yet set up
 abbrev pub set_up_batches : Option (List Batch) → List Batch
-set_up_batches none = []
-set_up_batches (some bs) = bs
+set_up_batches None = []
+set_up_batches (Some bs) = bs
 
 unfoldable pub total : List Batch → ℕ
 total [] = 0
@@ -72,8 +71,8 @@ abbrev pub is_empty_batch : Batch → Bool
 is_empty_batch b = eqb b.size 0
 
 abbrev pub differs : ℕ → Option (List Batch) → Bool
-differs n none = false
-differs n (some bs) = not (eqb (total bs) n)
+differs n None = false
+differs n (Some bs) = not (eqb (total bs) n)
 
 abbrev pub non_empty : List Slot → Bool
 non_empty [] = false

@@ -1,6 +1,5 @@
 -- Document 01, "Points": a question that changes nothing tells whether a scheduling point comes before the step.
-use Rattle.std.specs.Prelude.{ℕ, Bool, true, not, ◌&&◌, ◌||◌, List, [], ◌∷◌, leb}
-use Rattle.std.proofs.Math.Option.{Option, none, some}
+use Rattle.std.specs.Prelude.{ℕ, Bool, true, not, ◌&&◌, ◌||◌, List, [], ◌∷◌, leb, Option, None, Some}
 use Rattle.rules.specs.declared.TaskId.{TaskId}
 use Rattle.rules.specs.declared.Slot.{Slot}
 use Rattle.rules.specs.declared.Question.{Question}
@@ -39,8 +38,8 @@ pub data Told : Type 0 where
   refuses : ℕ → Told
 
 abbrev pub tell : Option ℕ → Bool → Told
-tell none b = tells b
-tell (some n) b = refuses n
+tell None b = tells b
+tell (Some n) b = refuses n
 
 -- Questions give only 14, 1, 2, 3, 4 and 7.
 unfoldable pub told_of : TaskId → Question → State → Told

@@ -1,6 +1,5 @@
 -- Document 01, "Steps": what a poll does, by cases; the effect of each case; and the marks that a poll leaves.
-use Rattle.std.specs.Prelude.{Bool, true, false, cond, ◌&&◌, ◌||◌, List, [], ◌∷◌, leb, ltb}
-use Rattle.std.proofs.Math.Option.{none, some}
+use Rattle.std.specs.Prelude.{Bool, true, false, cond, ◌&&◌, ◌||◌, List, [], ◌∷◌, leb, ltb, None, Some}
 use Rattle.rules.specs.declared.TaskId.{TaskId}
 use Rattle.rules.specs.declared.Slot.{Slot}
 use Rattle.rules.specs.declared.Grant.{Grant}
@@ -61,9 +60,9 @@ poll_work IsClosed t x s = s
 poll_work Stays t x s = s
 poll_work QueuesBack t x s = queue_back x s
 poll_work QueuesFront t x s = queue_front x s
-poll_work TakesReserved t x s = s ▷ with_reservation none ▷ take_as t (asked_at x s) ▷ wake_unfair
+poll_work TakesReserved t x s = s ▷ with_reservation None ▷ take_as t (asked_at x s) ▷ wake_unfair
 poll_work Takes t x s = s ▷ take_as t (asked_at x s) ▷ leave x ▷ reblock t
-poll_work Reserves t x s = s ▷ leave x ▷ with_reservation (some x) ▷ reblock t
+poll_work Reserves t x s = s ▷ leave x ▷ with_reservation (Some x) ▷ reblock t
 
 -- whether it takes
 abbrev pub takes_in : Polling → Bool

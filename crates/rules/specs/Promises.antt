@@ -1,6 +1,5 @@
 -- What the promises speak of (proofs/Promises.antt): sums over a run, who is stranded, who is passed over, and which numbers fit.
-use Rattle.std.specs.Prelude.{ℕ, ◌+◌, ◌≤◌, ◌<◌, ◌≡◌, true, false, cond, not, ◌&&◌, ◌||◌, List, [], ◌∷◌, ◌++◌, map, eqb, length}
-use Rattle.std.proofs.Math.Option.{Option, none, some}
+use Rattle.std.specs.Prelude.{ℕ, ◌+◌, ◌≤◌, ◌<◌, ◌≡◌, true, false, cond, not, ◌&&◌, ◌||◌, List, [], ◌∷◌, ◌++◌, map, eqb, length, Option, None, Some}
 use Rattle.rules.specs.declared.TaskId.{TaskId}
 use Rattle.rules.specs.declared.Slot.{Slot}
 use Rattle.rules.specs.declared.Grant.{Grant}
@@ -59,8 +58,8 @@ gives_up a s = by_sort (sort_of a) (λ n. 0) (λ x. cond ((request_at x s).holdi
 
 -- what is said of an accepted step, or of a refused one
 abbrev pub if_accepted {ℓ} : {A : Type ℓ} → Option ℕ → A → A → A
-if_accepted none a r = a
-if_accepted (some n) a r = r
+if_accepted None a r = a
+if_accepted (Some n) a r = r
 
 -- the sum over the accepted steps of a run, each in the state that it meets
 unfoldable pub over_run : (Act → State → ℕ) → List Step → State → ℕ
@@ -185,8 +184,8 @@ pub record RequestFits (n : ℕ) (r : Request) : Type 0 where
   pub task : r.task.0 < n
 
 abbrev pub SlotFits : ℕ → Option Request → Type 0
-SlotFits n none = Unit {0}
-SlotFits n (some r) = RequestFits n r
+SlotFits n None = Unit {0}
+SlotFits n (Some r) = RequestFits n r
 
 -- no count or clock entry passes 4,294,967,295, and no slot, task or batch number its size
 pub record CountsFit (s : State) : Type 0 where
@@ -200,7 +199,7 @@ pub record CountsFit (s : State) : Type 0 where
   pub slot-number : length s.slots ≡ slot_count
   pub queue : Each (λ (x : Slot). x.0 < slot_count) s.queue
   pub queue-number : length s.queue ≤ slot_count
-  pub reservation : (x : Slot) → s.reservation ≡ some x → x.0 < slot_count
+  pub reservation : (x : Slot) → s.reservation ≡ Some x → x.0 < slot_count
 
 -- and so in a grant, where there are n tasks
 abbrev pub TakerFits : Taker → Type 0

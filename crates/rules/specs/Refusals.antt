@@ -1,6 +1,5 @@
 -- Document 01, "Replies by number": when each is given, and the first that applies.
-use Rattle.std.specs.Prelude.{ℕ, ◌+◌, Bool, false, cond, not, ◌&&◌, ◌||◌, List, [], ◌∷◌, leb, ltb, eqb, length, get_or}
-use Rattle.std.proofs.Math.Option.{Option, none, some}
+use Rattle.std.specs.Prelude.{ℕ, ◌+◌, Bool, false, cond, not, ◌&&◌, ◌||◌, List, [], ◌∷◌, leb, ltb, eqb, length, get_or, Option, None, Some}
 use Rattle.rules.specs.declared.TaskId.{TaskId}
 use Rattle.rules.specs.declared.Slot.{Slot}
 use Rattle.rules.specs.declared.Dropping.{Dropping}
@@ -48,8 +47,8 @@ abbrev pub no_free_slot : State → Bool
 no_free_slot s = leb slot_count (lowest_free s.slots)
 
 abbrev pub full : Option (List Batch) → Bool
-full none = false
-full (some bs) = leb batch_count (length bs)
+full None = false
+full (Some bs) = leb batch_count (length bs)
 
 -- 9: a release above 0, batches set up and 64 standing
 abbrev pub no_room : ℕ → State → Bool
@@ -84,8 +83,8 @@ n if b = record { number = n; given = b }
 
 -- the first that is given
 abbrev pub first : List Ground → Option ℕ
-first [] = none
-first (g ∷ gs) = cond g.given (some g.number) (first gs)
+first [] = None
+first (g ∷ gs) = cond g.given (Some g.number) (first gs)
 
 -- 10, 9, 11: what a release of n meets
 abbrev pub release_grounds : TaskId → ℕ → State → List Ground

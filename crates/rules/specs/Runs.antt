@@ -1,6 +1,5 @@
 -- One step with its refusal; a start with its refusal; and any list of steps.
-use Rattle.std.specs.Prelude.{ℕ, cond, List, [], ◌∷◌}
-use Rattle.std.proofs.Math.Option.{Option, none, some}
+use Rattle.std.specs.Prelude.{ℕ, cond, List, [], ◌∷◌, Option, None, Some}
 use Rattle.rules.specs.State.{State}
 use Rattle.rules.specs.Fresh.{Start, fresh, refused_fresh, refuses12}
 use Rattle.rules.specs.declared.Grant.{Grant}
@@ -11,8 +10,8 @@ use Rattle.rules.specs.Refusals.{refusal}
 
 -- A refusal returns its number, no grants, and the state exactly as it came in.
 abbrev pub unless : Option ℕ → Step → State → Outcome
-unless none a s = effect a s
-unless (some n) a s = quiet (refused n) s
+unless None a s = effect a s
+unless (Some n) a s = quiet (refused n) s
 
 unfoldable pub step : Step → State → Outcome
 step a s = unless (refusal a s) a s

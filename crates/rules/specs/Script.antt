@@ -1,7 +1,5 @@
 -- Document 01, "The script program", with starting clocks as document 02 (No. 2) has them: what `semtrace` prints for a script.
-use Rattle.std.specs.Prelude.{ℕ, ◌*◌, Bool, true, false, cond, List, [], ◌∷◌, ◌++◌, map, eqb, ltb, length}
-use Rattle.std.proofs.Math.Option
-use Rattle.std.proofs.Math.Option.{Option, none, some}
+use Rattle.std.specs.Prelude.{ℕ, ◌*◌, Bool, true, false, cond, List, [], ◌∷◌, ◌++◌, map, eqb, ltb, length, Option, None, Some, option_map}
 use Rattle.rules.specs.declared.TaskId.{TaskId}
 use Rattle.rules.specs.declared.Fairness.{Fairness}
 use Rattle.rules.specs.declared.Fairness.TheVariants.{StrictlyFair, Unfair}
@@ -22,42 +20,42 @@ use Rattle.rules.specs.Text.{bytes, space, line_feed, comma, ◌is◌, joined_by
 -- In a `do` block each line says something, or the whole says nothing.
 infixl 20 ◌>>=◌
 abbrev pub ◌>>=◌ : {A B : Type 0} → Option A → (A → Option B) → Option B
-none >>= f = none
-some a >>= f = f a
+None >>= f = None
+Some a >>= f = f a
 
 -- The first line.
 
 -- `S` or `U`
 abbrev pub fairness_of : List ℕ → Option Fairness
-fairness_of f = cond (f is "S") (some StrictlyFair) (cond (f is "U") (some Unfair) none)
+fairness_of f = cond (f is "S") (Some StrictlyFair) (cond (f is "U") (Some Unfair) None)
 
 -- maker or `-`
 abbrev pub maker_of : List ℕ → Option (Option TaskId)
-maker_of f = cond (f is "-") (some none) (Option.map (λ t. some (record { 0 = t })) (number_of f))
+maker_of f = cond (f is "-") (Some None) (option_map (λ t. Some (record { 0 = t })) (number_of f))
 
 -- the numbers that fields say, where each says one
 unfoldable pub numbers_of : List (List ℕ) → Option (List ℕ)
-numbers_of [] = some []
+numbers_of [] = Some []
 numbers_of (f ∷ fs) = do
   n ← number_of f
   ns ← numbers_of fs
-  some (n ∷ ns)
+  Some (n ∷ ns)
 
 -- Document 02, No. 2: the first line may carry the starting clocks after the task count, row by row, all or none. None means that task 0
 -- spawned the rest.
 abbrev pub clocks_said : ℕ → List ℕ → Option (List ℕ)
-clocks_said k [] = some (spawned k)
-clocks_said k (c ∷ cs) = cond (eqb (length (c ∷ cs)) (k * k)) (some (c ∷ cs)) none
+clocks_said k [] = Some (spawned k)
+clocks_said k (c ∷ cs) = cond (eqb (length (c ∷ cs)) (k * k)) (Some (c ∷ cs)) None
 
 abbrev pub start_with : Fairness → ℕ → Option TaskId → ℕ → List ℕ → Start
 start_with f n m k cs = record { fairness = f; stock = n; tasks = k; clocks = cs; maker = m }
 
 -- `S` or `U`, stock, maker or `-`, tasks; then starting clocks, or none
 unfoldable pub start_by : List (List ℕ) → Option Start
-start_by [] = none
-start_by (f ∷ []) = none
-start_by (f ∷ n ∷ []) = none
-start_by (f ∷ n ∷ m ∷ []) = none
+start_by [] = None
+start_by (f ∷ []) = None
+start_by (f ∷ n ∷ []) = None
+start_by (f ∷ n ∷ m ∷ []) = None
 start_by (f ∷ n ∷ m ∷ k ∷ cs) = do
   fairness ← fairness_of f
   stock ← number_of n
@@ -65,7 +63,7 @@ start_by (f ∷ n ∷ m ∷ k ∷ cs) = do
   tasks ← number_of k
   entries ← numbers_of cs
   clocks ← clocks_said tasks entries
-  some (start_with fairness stock maker tasks clocks)
+  Some (start_with fairness stock maker tasks clocks)
 
 abbrev pub start_of : List ℕ → Option Start
 start_of line = start_by (fields line)
@@ -74,19 +72,19 @@ start_of line = start_by (fields line)
 
 -- what a letter says with no more numbers behind the actor, with one more, and with two more
 abbrev pub no_more : Act → List ℕ → Option Act
-no_more a [] = some a
-no_more a (n ∷ ns) = none
+no_more a [] = Some a
+no_more a (n ∷ ns) = None
 
 abbrev pub one_more : (ℕ → Act) → List ℕ → Option Act
-one_more a [] = none
-one_more a (n ∷ []) = some (a n)
-one_more a (n ∷ m ∷ ns) = none
+one_more a [] = None
+one_more a (n ∷ []) = Some (a n)
+one_more a (n ∷ m ∷ ns) = None
 
 abbrev pub two_more : (ℕ → ℕ → Act) → List ℕ → Option Act
-two_more a [] = none
-two_more a (n ∷ []) = none
-two_more a (n ∷ m ∷ []) = some (a n m)
-two_more a (n ∷ m ∷ k ∷ ns) = none
+two_more a [] = None
+two_more a (n ∷ []) = None
+two_more a (n ∷ m ∷ []) = Some (a n m)
+two_more a (n ∷ m ∷ k ∷ ns) = None
 
 -- `A t n` request, `B t n` bypassable, `R t least n` reserving, `U t held wanted`, `P t slot`, `T t n` try, `V t held wanted`,
 -- `L t n` release, `D t slot`, `C t`, `Z t` sleep, `F t` finish
@@ -104,15 +102,15 @@ act_of letter ns =
     (cond (letter is "C") (no_more Close ns)
     (cond (letter is "Z") (no_more Sleep ns)
     (cond (letter is "F") (no_more Finish ns)
-    none)))))))))))
+    None)))))))))))
 
 -- the actor is the first number
 abbrev pub step_with : List ℕ → List ℕ → Option Step
-step_with letter [] = none
-step_with letter (t ∷ ns) = Option.map (λ a. record { 0 = t } does a) (act_of letter ns)
+step_with letter [] = None
+step_with letter (t ∷ ns) = option_map (λ a. record { 0 = t } does a) (act_of letter ns)
 
 unfoldable pub step_by : List (List ℕ) → Option Step
-step_by [] = none
+step_by [] = None
 step_by (letter ∷ fs) = numbers_of fs >>= step_with letter
 
 abbrev pub step_of : List ℕ → Option Step
@@ -120,7 +118,7 @@ step_of line = step_by (fields line)
 
 -- Other lines, an unended last one too, say nothing.
 abbrev pub said : {A : Type 0} → (List ℕ → Option A) → Line → Option A
-said by l = cond l.ended (by l.content) none
+said by l = cond l.ended (by l.content) None
 
 -- Each line prints.
 
@@ -171,8 +169,8 @@ pub record Printing : Type 0 where
 
 -- other lines print `bad` and change nothing
 abbrev pub printing : Option Step → State → Printing
-printing none s = record { text = end_line (bytes "bad"); state = s }
-printing (some a) s = let o = step a s in record { text = outcome_text o; state = o.state }
+printing None s = record { text = end_line (bytes "bad"); state = s }
+printing (Some a) s = let o = step a s in record { text = outcome_text o; state = o.state }
 
 unfoldable pub trace : State → List Line → List ℕ
 trace s [] = []
@@ -180,8 +178,8 @@ trace s (l ∷ ls) = let p = printing (said step_of l) s in p.text ++ trace p.st
 
 -- a bad first line ends the program; a refused first line prints `r12` and ends it
 abbrev pub trace_from : Option Start → List Line → List ℕ
-trace_from none ls = end_line (bytes "bad")
-trace_from (some a) ls = let o = start a in cond (refuses12 a) (end_line (bytes "r12")) (outcome_text o ++ trace o.state ls)
+trace_from None ls = end_line (bytes "bad")
+trace_from (Some a) ls = let o = start a in cond (refuses12 a) (end_line (bytes "r12")) (outcome_text o ++ trace o.state ls)
 
 -- empty input prints nothing
 unfoldable pub program : List Line → List ℕ

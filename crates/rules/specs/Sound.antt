@@ -1,6 +1,5 @@
 -- A state that 14 does not refuse, as facts: what the steps may count on, and what each of them keeps.
-use Rattle.std.specs.Prelude.{ℕ, ◌≤◌, ◌<◌, ◌≡◌, true, false, List, [], length}
-use Rattle.std.proofs.Math.Option.{none, some}
+use Rattle.std.specs.Prelude.{ℕ, ◌≤◌, ◌<◌, ◌≡◌, true, false, List, [], length, None, Some}
 use Rattle.rules.specs.declared.Slot.{Slot}
 use Rattle.rules.specs.Sizes.{max_tasks, slot_count, batch_count}
 use Rattle.rules.specs.State.{Batch, Permits, State, strict, in_use, request_at, asked_at, least_at, task_of}
@@ -32,7 +31,7 @@ pub record AddUp (bs : List Batch) (n : ℕ) : Type 0 where
   pub sum : total bs ≡ n
 
 abbrev pub SoundPermits : Permits → Type 0
-SoundPermits p = (bs : List Batch) → p.batches ≡ some bs → AddUp bs p.stock
+SoundPermits p = (bs : List Batch) → p.batches ≡ Some bs → AddUp bs p.stock
 
 pub record Sound (s : State) : Type 0 where
   pub slots : length s.slots ≡ slot_count
@@ -41,7 +40,7 @@ pub record Sound (s : State) : Type 0 where
   pub once : twice s.queue ≡ false
   pub queued : (x : Slot) → member x s.queue ≡ true → Waits s x
   pub marked : (x : Slot) → (request_at x s).queued ≡ member x s.queue
-  pub reserves : (x : Slot) → s.reservation ≡ some x → IsReserved s x
+  pub reserves : (x : Slot) → s.reservation ≡ Some x → IsReserved s x
   pub made : (x : Slot) → (request_at x s).ask.reserving ≡ true → WellMade s x
-  pub closed : s.closed ≡ true → (s.queue ≡ []) × (s.reservation ≡ none)
+  pub closed : s.closed ≡ true → (s.queue ≡ []) × (s.reservation ≡ None)
   pub permits : SoundPermits s.permits

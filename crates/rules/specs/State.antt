@@ -1,7 +1,5 @@
 -- Document 01, "State": what the semaphore is, and how its parts are read and changed.
-use Rattle.std.specs.Prelude.{ℕ, Bool, true, false, cond, List, eqb, get_or, set}
-use Rattle.std.proofs.Math.Option
-use Rattle.std.proofs.Math.Option.{Option, none, some, map}
+use Rattle.std.specs.Prelude.{ℕ, Bool, true, false, cond, List, eqb, get_or, set, Option, None, Some, option_map, is_some, unwrap_or}
 use Rattle.rules.specs.declared.TaskId.{TaskId}
 use Rattle.rules.specs.declared.Slot.{Slot}
 use Rattle.rules.specs.declared.Fairness.{Fairness}
@@ -44,10 +42,6 @@ strict s = is_strict s.fairness
 abbrev pub stock : State → ℕ
 stock s = s.permits.stock
 
-abbrev pub is_some {ℓ} : {A : Type ℓ} → Option A → Bool
-is_some none = false
-is_some (some a) = true
-
 abbrev pub reserved : State → Bool
 reserved s = is_some s.reservation
 
@@ -55,8 +49,8 @@ abbrev pub same_slot : Slot → Slot → Bool
 same_slot x y = eqb x.0 y.0
 
 abbrev pub is_the : Slot → Option Slot → Bool
-is_the x none = false
-is_the x (some y) = same_slot x y
+is_the x None = false
+is_the x (Some y) = same_slot x y
 
 -- whether the slot has the reservation
 abbrev pub has_reservation : Slot → State → Bool
@@ -71,10 +65,10 @@ task_at t s = get_or s.tasks t.0 no_task
 
 -- whether a slot is in use: neither above 31 nor free
 abbrev pub in_use : Slot → State → Bool
-in_use x s = is_some (get_or s.slots x.0 none)
+in_use x s = is_some (get_or s.slots x.0 None)
 
 abbrev pub request_at : Slot → State → Request
-request_at x s = Option.get_or (get_or s.slots x.0 none) no_request
+request_at x s = unwrap_or (get_or s.slots x.0 None) no_request
 
 abbrev pub asked_at : Slot → State → ℕ
 asked_at x s = (request_at x s).ask.asked
@@ -114,7 +108,7 @@ abbrev pub alter_task : TaskId → (Task → Task) → State → State
 alter_task t f s = with_tasks (set s.tasks t.0 (f (task_at t s))) s
 
 abbrev pub alter_request : Slot → (Request → Request) → State → State
-alter_request x f s = with_slots (set s.slots x.0 (map f (get_or s.slots x.0 none))) s
+alter_request x f s = with_slots (set s.slots x.0 (option_map f (get_or s.slots x.0 None))) s
 
 -- the task is unblocked and woken
 abbrev pub unblock_and_wake : TaskId → State → State

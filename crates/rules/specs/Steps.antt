@@ -1,6 +1,5 @@
 -- Document 01, "Steps": each step's effect where it is not refused.
-use Rattle.std.specs.Prelude.{ℕ, suc, ◌-◌, Bool, true, false, cond, not, ◌&&◌, ◌||◌, List, [], ◌∷◌, eqb, set}
-use Rattle.std.proofs.Math.Option.{Option, none, some}
+use Rattle.std.specs.Prelude.{ℕ, suc, ◌-◌, Bool, true, false, cond, not, ◌&&◌, ◌||◌, List, [], ◌∷◌, eqb, set, Option, None, Some}
 use Rattle.rules.specs.declared.TaskId.{TaskId}
 use Rattle.rules.specs.declared.Slot.{Slot}
 use Rattle.rules.specs.declared.Ask.{Ask}
@@ -81,14 +80,14 @@ ungranted s = record { grants = []; state = s }
 -- the lowest free slot (as many as there are, where none is free)
 unfoldable pub lowest_free : List (Option Request) → ℕ
 lowest_free [] = 0
-lowest_free (none ∷ rs) = 0
-lowest_free (some r ∷ rs) = suc (lowest_free rs)
+lowest_free (None ∷ rs) = 0
+lowest_free (Some r ∷ rs) = suc (lowest_free rs)
 
 -- fills a slot with an unpolled request and changes nothing else
 unfoldable pub make : TaskId → Ask → State → Outcome
 make t a s =
     let i = lowest_free s.slots in
-    quiet (made (record { 0 = i })) (with_slots (set s.slots i (some (unpolled a t (task_at t s).clock))) s)
+    quiet (made (record { 0 = i })) (with_slots (set s.slots i (Some (unpolled a t (task_at t s).clock))) s)
 
 -- An upgrade asks for the difference: Front if strictly fair, else reserving with least 0.
 abbrev pub upgrade_ask : Bool → ℕ → Ask
@@ -159,13 +158,13 @@ drop_queued x s =
 
 unfoldable pub drop_work : Dropping → TaskId → Slot → State → Granting
 drop_work Leaving t x s = drop_queued x s
-drop_work Unreserving t x s = ungranted (s ▷ with_reservation none ▷ wake_unfair)
+drop_work Unreserving t x s = ungranted (s ▷ with_reservation None ▷ wake_unfair)
 drop_work Returning t x s = release t (asked_at x s) s
 drop_work Nothing t x s = ungranted s
 
 -- dropping a request frees its slot
 abbrev pub free : Slot → State → State
-free x s = with_slots (set s.slots x.0 none) s
+free x s = with_slots (set s.slots x.0 None) s
 
 unfoldable pub drop_request : TaskId → Slot → State → Granting
 drop_request t x s = let g = drop_work (dropping x s) t x s in record { grants = g.grants; state = free x g.state }
@@ -183,8 +182,8 @@ empty_queue (x ∷ q) s = empty_queue q (s ▷ leave x ▷ wake_unfinished x)
 
 -- then the reservation
 abbrev pub drop_reservation : Option Slot → State → State
-drop_reservation none s = s
-drop_reservation (some x) s = s ▷ with_reservation none ▷ wake_unfinished x
+drop_reservation None s = s
+drop_reservation (Some x) s = s ▷ with_reservation None ▷ wake_unfinished x
 
 -- nothing if closed
 unfoldable pub closing : State → State

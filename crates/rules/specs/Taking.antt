@@ -1,6 +1,5 @@
 -- Document 01, "Steps": setting up, taking, and the direct rule.
-use Rattle.std.specs.Prelude.{ℕ, zero, suc, ◌+◌, ◌-◌, Bool, true, cond, ◌&&◌, ◌||◌, not, List, [], ◌∷◌, ◌++◌, ltb, leb}
-use Rattle.std.proofs.Math.Option.{Option, none, some}
+use Rattle.std.specs.Prelude.{ℕ, zero, suc, ◌+◌, ◌-◌, Bool, true, cond, ◌&&◌, ◌||◌, not, List, [], ◌∷◌, ◌++◌, ltb, leb, Option, None, Some}
 use Rattle.rules.specs.declared.TaskId.{TaskId}
 use Rattle.rules.specs.declared.Slot.{Slot}
 use Rattle.rules.specs.declared.Priority.{Priority}
@@ -14,8 +13,8 @@ use Rattle.rules.specs.State.{Batch, Permits, State, strict, stock, reserved, ta
 use Rattle.rules.specs.Fresh.{first_batch}
 
 unfoldable pub standing_of : ℕ → Option (List Batch) → List Batch
-standing_of n none = first_batch n (empty width)
-standing_of n (some bs) = bs
+standing_of n None = first_batch n (empty width)
+standing_of n (Some bs) = bs
 
 -- Setting up later adds one batch of the whole stock with the empty clock, if the stock is positive: the batches that then stand.
 unfoldable pub standing : Permits → List Batch
@@ -43,7 +42,7 @@ unfoldable pub taking : ℕ → Clock → Permits → Taken
 taking n c p =
     let m = eat (standing p) n (empty width) in
     record {
-      permits = record { stock = p.stock - n; batches = some m.rest; last = join p.last c };
+      permits = record { stock = p.stock - n; batches = Some m.rest; last = join p.last c };
       clock = m.clock;
     }
 
@@ -61,7 +60,7 @@ take_queued x s =
 
 -- set up; add n and a batch with a clock
 unfoldable pub adding : ℕ → Clock → Permits → Permits
-adding n c p = record { stock = p.stock + n; batches = some (standing p ++ record { size = n; clock = c } ∷ []); last = p.last }
+adding n c p = record { stock = p.stock + n; batches = Some (standing p ++ record { size = n; clock = c } ∷ []); last = p.last }
 
 -- every queued request is Bypassable
 unfoldable pub all_bypassable : List Slot → State → Bool

@@ -1,8 +1,7 @@
 -- Document 01, "The script program": bytes as lines, fields and decimal numbers.
-use Rattle.std.specs.Prelude.{ℕ, zero, suc, ◌+◌, ◌*◌, ◌-◌, ◌/◌, ◌%◌, Bool, true, false, cond, not, ◌&&◌, List, [], ◌∷◌, ◌++◌, eqb, leb, ltb}
+use Rattle.std.specs.Prelude.{ℕ, zero, suc, ◌+◌, ◌*◌, ◌-◌, ◌/◌, ◌%◌, Bool, true, false, cond, not, ◌&&◌, List, [], ◌∷◌, ◌++◌, eqb, leb, ltb, Option, None, Some}
 use Prim.Native.Char.{code}
 use Prim.Native.String.{String, [] as empty_text, ◌∷◌ as ◌∷ᵗ◌}
-use Rattle.std.proofs.Math.Option.{Option, none, some}
 use Rattle.rules.specs.Sizes.{largest}
 
 -- the bytes of a text in ASCII
@@ -98,7 +97,7 @@ value_from n (c ∷ cs) = value_from (n * 10 + (c - code "0")) cs
 
 -- the number that a field says: decimal up to 4,294,967,295 without leading zeros
 unfoldable pub number_of : List ℕ → Option ℕ
-number_of f = cond (no_leading_zero f && all_digits f && leb (value_from 0 f) largest) (some (value_from 0 f)) none
+number_of f = cond (no_leading_zero f && all_digits f && leb (value_from 0 f) largest) (Some (value_from 0 f)) None
 
 -- the last k digits, or all where there are fewer: a tenth's digits, and behind them the last
 unfoldable pub last_digits : ℕ → ℕ → List ℕ

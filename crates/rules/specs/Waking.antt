@@ -1,14 +1,13 @@
 -- Document 01, "Steps": waking the unfair, and reblocking.
-use Rattle.std.specs.Prelude.{Bool, cond, not, ◌&&◌, ◌||◌, List, [], ◌∷◌, leb, ltb, eqb}
-use Rattle.std.proofs.Math.Option.{Option, none, some}
+use Rattle.std.specs.Prelude.{Bool, cond, not, ◌&&◌, ◌||◌, List, [], ◌∷◌, leb, ltb, eqb, Option, None, Some}
 use Rattle.rules.specs.declared.TaskId.{TaskId}
 use Rattle.rules.specs.declared.Slot.{Slot}
 use Rattle.rules.specs.Task.{blocked}
 use Rattle.rules.specs.State.{State, strict, stock, reserved, asked_at, least_at, task_of, owner_finished, with_reservation, alter_task, unblock_and_wake}
 
 abbrev pub cleared_if : Option Slot → State → State
-cleared_if none s = s
-cleared_if (some x) s = cond (owner_finished x s) (with_reservation none s) s
+cleared_if None s = s
+cleared_if (Some x) s = cond (owner_finished x s) (with_reservation None s) s
 
 -- a reservation whose task is finished is cleared
 abbrev pub clear_finished : State → State
@@ -22,8 +21,8 @@ wake_each (x ∷ q) s =
 
 -- If a reservation still stands, unblock and wake its task if its ask fits; stop either way. Else wake the queue.
 abbrev pub wake_by : Option Slot → State → State
-wake_by (some x) s = cond (leb (asked_at x s) (stock s)) (unblock_and_wake (task_of x s) s) s
-wake_by none s = wake_each s.queue s
+wake_by (Some x) s = cond (leb (asked_at x s) (stock s)) (unblock_and_wake (task_of x s) s) s
+wake_by None s = wake_each s.queue s
 
 unfoldable pub wake_unfair : State → State
 wake_unfair s = let a = clear_finished s in wake_by a.reservation a

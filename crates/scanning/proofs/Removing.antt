@@ -1,10 +1,10 @@
 -- The front of the queue, and a queued request that goes.
+use Rattle.std.specs.Prelude.{Option, None}
 use Prim.Native.Nat.{ℕ, ◌*◌, ◌≤◌, ◌<◌}
 use native.Mathlib.Omega.{arith}
 use mathlib.Core.Path.{◌≡◌, refl, sym, ap, subst, ◌∙◌}
 use mathlib.Core.Bool.{Bool, true, false, cond, not, ◌&&◌, ◌||◌}
 use mathlib.Core.List.{List, [], ◌∷◌}
-use mathlib.Core.Option.{Option, none}
 use borrow.Author.Tests.{not-true, not-false}
 use lib.Dec.{eqb}
 use lib.ListN.{length, get_or}
@@ -55,7 +55,7 @@ module _ (q : List Slot) (n : ℕ) (e : n ≡ length q) where
         go [] h = refl
         go (y ∷ q) h = absurd (omega arith)
 
-    pub front_so : (y d : Slot) (r : Request) (b : Bool) → (n ≡ 0 → ⊥) → y ≡ get_or q 0 d → Stands r (get_or rs y.0 none) → b ≡ is_bypassable r.ask.kind → b ≡ front_as q rs
+    pub front_so : (y d : Slot) (r : Request) (b : Bool) → (n ≡ 0 → ⊥) → y ≡ get_or q 0 d → Stands r (get_or rs y.0 None) → b ≡ is_bypassable r.ask.kind → b ≡ front_as q rs
     front_so y d r b z ey s eb = eb ∙ go q (λ h. z (e ∙ h)) ey
       where
         go : (q : List Slot) → (length q ≡ 0 → ⊥) → y ≡ get_or q 0 d → is_bypassable r.ask.kind ≡ front_as q rs

@@ -1,10 +1,10 @@
 -- The scan's loop: a head and words that stand at a turn of the walk, and what each turn makes of them.
+use Rattle.std.specs.Prelude.{None}
 use Prim.Native.Nat.{ℕ, ◌+◌, ◌-◌, ◌*◌, ◌≤◌, ◌<◌}
 use native.Mathlib.Omega.{arith}
 use mathlib.Core.Path.{◌≡◌, refl, sym, ap, subst, ◌∙◌}
 use mathlib.Core.Bool.{false}
 use mathlib.Core.List.{List, [], ◌∷◌, ◌++◌}
-use mathlib.Core.Option.{none}
 use lib.ListN.{length, get_or}
 use Rattle.rules.specs.declared.Slot.{Slot}
 use Rattle.rules.specs.declared.Grant.{Grant}
@@ -71,7 +71,7 @@ module _ (h : Head) (slots₀ tasks₀ : List ℕ) (now : Head) (slots tasks gra
     pub standing : StandsAt x i (waiters_of now.waiters)
     standing = record { within = omega arith; there = ex; once = v.turn.once }
 
-    module _ (r : Request) (st : Stands r (get_or (slots_of slots) x.0 none))
+    module _ (r : Request) (st : Stands r (get_or (slots_of slots) x.0 None))
         (d : Verdict) (ed : d ≡ verdict_as (tasks_of now.tasks tasks) (request_of r) now.stock) where
       said : verdict x here ≡ d
       said = sym (ed ∙ judged_there here x (request_of r) st.view)

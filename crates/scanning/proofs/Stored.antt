@@ -1,11 +1,11 @@
 -- The verdict, a joining, a leaving and a grant put together from their parts.
+use Rattle.std.specs.Prelude.{Option, None, Some, option_map}
 use Prim.Native.Nat.{ℕ, ◌-◌, ◌≤◌, ◌<◌}
 use native.Mathlib.Decide.{dec_lt}
 use native.Mathlib.Omega.{arith}
 use mathlib.Core.Path.{◌≡◌, refl, sym, ap, subst, ◌∙◌}
 use mathlib.Core.Bool.{Bool, true, false, cond}
 use mathlib.Core.List.{List, [], ◌∷◌, ◌++◌}
-use mathlib.Core.Option.{Option, none, some, map}
 use borrow.Author.Tests.{le-leb, lt-leb, leb-true}
 use lib.Dec.{leb}
 use lib.ListN.{length, get_or, set, length-take}
@@ -131,23 +131,23 @@ alter_twice l i d f g =
       | no h ↦ rw (set_out l i (f (get_or l i d)) (omega arith), set_out l i (g (get_or l i d)) (omega arith), set_out l i (g (f (get_or l i d))) (omega arith))
     ]
 
-map-twice : (f g : RequestRule → RequestRule) (o : Option RequestRule) → map (λ r. g (f r)) o ≡ map g (map f o)
-map-twice f g none = refl
-map-twice f g (some r) = refl
+map-twice : (f g : RequestRule → RequestRule) (o : Option RequestRule) → option_map (λ r. g (f r)) o ≡ option_map g (option_map f o)
+map-twice f g None = refl
+map-twice f g (Some r) = refl
 
 abbrev roused_in : List Task → ℕ → List Task
 roused_in ts t = set ts t (wakened (unblocked (get_or ts t no_task)))
 
 module _ (h : Head) (slots later tasks awake : List ℕ) (x : Slot) (i : ℕ) (q : Request) (w : Waiters)
-    (s : Shaped h slots tasks) (st : Stands q (get_or (slots_of slots) x.0 none))
+    (s : Shaped h slots tasks) (st : Stands q (get_or (slots_of slots) x.0 None))
     (p : StandsAt x i (waiters_of h.waiters)) (lo : Holds w (remove_at i (waiters_of h.waiters)))
     (es : SlotsShow later slots (altered x (marking IsGranted) (slots_of slots))) (ks : length later ≡ length slots)
     (et : TasksShow h.tasks awake tasks (roused_in (tasks_of h.tasks tasks) q.task)) (kt : length awake ≡ length tasks) where
   slots-after : slots_of later ≡ altered x held (altered x (queued_as false) (slots_of slots))
   slots-after =
       es.view
-      ∙ ap (λ (o : Option RequestRule). set (slots_of slots) x.0 o) (map-twice (queued_as false) held (get_or (slots_of slots) x.0 none))
-      ∙ sym (alter_twice (slots_of slots) x.0 none (map (queued_as false)) (map held))
+      ∙ ap (λ (o : Option RequestRule). set (slots_of slots) x.0 o) (map-twice (queued_as false) held (get_or (slots_of slots) x.0 None))
+      ∙ sym (alter_twice (slots_of slots) x.0 None (option_map (queued_as false)) (option_map held))
 
   tasks-after : tasks_of h.tasks awake ≡ roused_in (tasks_of h.tasks tasks) (request_at x (plain_of h slots tasks)).task.0
   tasks-after = et.view ∙ ap (λ (z : RequestRule). roused_in (tasks_of h.tasks tasks) z.task.0) st.view

@@ -1,7 +1,5 @@
 -- What is said of the queue's parts.
-use Rattle.std.specs.Prelude.{ℕ, ◌<◌, ◌≡◌, Bool, false, cond, List, [], ◌∷◌, leb, length, get_or}
-use Rattle.std.proofs.Math.Option
-use Rattle.std.proofs.Math.Option.{Option, none}
+use Rattle.std.specs.Prelude.{ℕ, ◌<◌, ◌≡◌, Bool, false, cond, List, [], ◌∷◌, leb, length, get_or, Option, None, unwrap_or}
 use Rattle.rules.specs.declared.Slot.{Slot}
 use Rattle.rules.specs.declared.Verdict.{Verdict}
 use Rattle.rules.specs.declared.Verdict.TheVariants.{Leaves, Fits, Passed, Ends}
@@ -34,4 +32,4 @@ verdict_as ts r n =
 -- whether the front request is Bypassable
 abbrev pub front_as : List Slot → List (Option Request) → Bool
 front_as [] rs = false
-front_as (x ∷ q) rs = is_bypassable (Option.get_or (get_or rs x.0 none) no_request).ask.kind
+front_as (x ∷ q) rs = is_bypassable (unwrap_or (get_or rs x.0 None) no_request).ask.kind

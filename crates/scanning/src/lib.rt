@@ -2,8 +2,7 @@
 // words of slots, tasks and grants are lent.
 #![tactic(auto)]
 
-ghost use Rattle.std.specs.Prelude.{◌≡◌, false, cond, ◌&&◌, ◌||◌, [], ◌∷◌, ◌++◌, ◌*◌, ◌≤◌, ◌<◌, length, get_or};
-ghost use Rattle.std.proofs.Math.Option.{none};
+ghost use Rattle.std.specs.Prelude.{◌≡◌, false, cond, ◌&&◌, ◌||◌, [], ◌∷◌, ◌++◌, ◌*◌, ◌≤◌, ◌<◌, length, get_or, None};
 ghost use Rattle.rules.specs.Sizes.{slot_count, max_tasks};
 ghost use Rattle.rules.specs.State.{is_strict};
 ghost use Rattle.rules.specs.Broken.{twice};
@@ -93,7 +92,7 @@ fn judge(r: Request, stock: u32, tasks: &[u32], count: u32) -> Verdict
 
 // The queued request, which fits, is granted: held, out of the queue, its task unblocked and woken.
 fn grant(h: Head, slots: &mut [u32], tasks: &mut [u32], x: Slot, i: usize, r: Request) -> Head
-    requires { (Shaped h slots.old tasks.old) × (Stands r (get_or (slots_of slots.old) x.0 none)) × (r.ask.asked ≤ h.stock) × StandsAt x i (waiters_of h.waiters) }
+    requires { (Shaped h slots.old tasks.old) × (Stands r (get_or (slots_of slots.old) x.0 None)) × (r.ask.asked ≤ h.stock) × StandsAt x i (waiters_of h.waiters) }
     ensures { Shows result slots.new tasks.new (grant_queued x (plain_of h slots.old tasks.old)) }
 {
     let m = Marking::IsGranted;

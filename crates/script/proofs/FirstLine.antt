@@ -1,10 +1,10 @@
 -- What a first line says, from one field to the next.
+use Rattle.std.specs.Prelude.{Option, None, Some}
 use Prim.Native.Nat.{ℕ, min, ◌+◌, ◌≤◌, ◌<◌}
 use native.Mathlib.Omega.{arith}
 use mathlib.Core.Path.{◌≡◌, refl, ap, sym, subst, ◌∙◌}
 use mathlib.Core.Bool.{and-true, and-false}
 use mathlib.Core.List.{List, [], ◌∷◌}
-use mathlib.Core.Option.{Option, none, some}
 use lib.Dec.{eqb}
 use lib.ListN.{length, drop}
 use borrow.Author.Tests.{eq-eqb, ne_eqb}
@@ -33,15 +33,15 @@ letter_is (x ∷ []) c h = and-true (eqb x c)
 letter_is (x ∷ y ∷ ys) c h = and-false (eqb x c) ∙ sym (ne_eqb 0 c (λ e. omega arith))
 
 -- where nothing is said behind it, nothing is said
-nothing : {A B : Type 0} (o : Option A) (k : A → Option B) → ((a : A) → k a ≡ none) → (o >>= k) ≡ none
-nothing none k h = refl
-nothing (some a) k h = h a
+nothing : {A B : Type 0} (o : Option A) (k : A → Option B) → ((a : A) → k a ≡ None) → (o >>= k) ≡ None
+nothing None k h = refl
+nothing (Some a) k h = h a
 
 -- what is said from one place on is said from another
 as_said : {line : List ℕ} {o p : Option Start} (r : Opening) → o ≡ p → Opens line o r → Opens line p r
 as_said r e q = record { says = q.says ∙ e; within = q.within }
 
-shut : (line : List ℕ) (o : Option Start) → none ≡ o → Opens line o Bad
+shut : (line : List ℕ) (o : Option Start) → None ≡ o → Opens line o Bad
 shut line o e = record { says = e; within = tt }
 
 -- The tasks.
@@ -79,35 +79,35 @@ module _ (f : Fairness) (n : ℕ) (line g : List ℕ) (at : ℕ) (is : g ≡ bef
     onward : maker_on f n line at ≡ (maker_of g >>= λ m. tasks_on f n (maker_within m) line (at + length g + 1))
     onward = rw (parts_onward space line at (at + length g) ends h, ← is)
 
-    pub maker_dash : (o : Opening) → letter ≡ 45 → Opens line (tasks_on f n none line (at + length g + 1)) o → Opens line (maker_on f n line at) o
+    pub maker_dash : (o : Opening) → letter ≡ 45 → Opens line (tasks_on f n None line (at + length g + 1)) o → Opens line (maker_on f n line at) o
     maker_dash o e q = as_said o (sym (onward ∙ rw (letter_is g 45 (omega arith), ← l, eq-eqb letter 45 e))) q
 
     pub maker_none : (r : Number) → (letter ≡ 45 → ⊥) → told r ≡ number_of g → r ≡ Not → Opens line (maker_on f n line at) Bad
     maker_none r d s e = shut line (maker_on f n line at) (sym (onward ∙ rw (letter_is g 45 (omega arith), ← l, ne_eqb letter 45 d, ← s, e)))
 
     pub maker-named : (r : Number) (t u : ℕ) (o : Opening) → (letter ≡ 45 → ⊥) → told r ≡ number_of g → r ≡ Is t → u ≡ min t 255
-        → Opens line (tasks_on f n (some (record { 0 = u })) line (at + length g + 1)) o → Opens line (maker_on f n line at) o
+        → Opens line (tasks_on f n (Some (record { 0 = u })) line (at + length g + 1)) o → Opens line (maker_on f n line at) o
     maker-named r t u o d s e v q = as_said o (sym (onward ∙ rw (letter_is g 45 (omega arith), ← l, ne_eqb letter 45 d, ← s, e, v))) q
 
 -- The whole line, field by field.
-named-clocks : (a : Fairness) (b : ℕ) (c : Option TaskId) (d : ℕ) (o : Option (List ℕ)) → start_within (o >>= λ e. some (start_with a b c d e)) ≡ (o >>= λ e. some (start_with a b (maker_within c) d e))
-named-clocks a b c d none = refl
-named-clocks a b c d (some e) = refl
+named-clocks : (a : Fairness) (b : ℕ) (c : Option TaskId) (d : ℕ) (o : Option (List ℕ)) → start_within (o >>= λ e. Some (start_with a b c d e)) ≡ (o >>= λ e. Some (start_with a b (maker_within c) d e))
+named-clocks a b c d None = refl
+named-clocks a b c d (Some e) = refl
 
 -- the clocks that entries say, at once or one after the other
 clocks_regrouped : {B : Type 0} (k : ℕ) (o : Option (List ℕ)) (f : List ℕ → Option B) → (o >>= λ e. clocks_said k e >>= f) ≡ ((o >>= clocks_said k) >>= f)
-clocks_regrouped k none f = refl
-clocks_regrouped k (some e) f = refl
+clocks_regrouped k None f = refl
+clocks_regrouped k (Some e) f = refl
 
 named_at_once : (f : Option Fairness) (n : Option ℕ) (m : Option (Option TaskId)) (k : Option ℕ) (g : Option (List ℕ))
-    → start_within (f >>= λ a. n >>= λ b. m >>= λ c. k >>= λ d. g >>= λ e. clocks_said d e >>= λ h. some (start_with a b c d h))
-    ≡ (f >>= λ a. n >>= λ b. m >>= λ c. k >>= λ d. (g >>= clocks_said d) >>= λ h. some (start_with a b (maker_within c) d h))
-named_at_once none n m k g = refl
-named_at_once (some a) none m k g = refl
-named_at_once (some a) (some b) none k g = refl
-named_at_once (some a) (some b) (some c) none g = refl
-named_at_once (some a) (some b) (some c) (some d) g =
-    ap start_within (clocks_regrouped d g (λ h. some (start_with a b c d h))) ∙ named-clocks a b c d (g >>= clocks_said d)
+    → start_within (f >>= λ a. n >>= λ b. m >>= λ c. k >>= λ d. g >>= λ e. clocks_said d e >>= λ h. Some (start_with a b c d h))
+    ≡ (f >>= λ a. n >>= λ b. m >>= λ c. k >>= λ d. (g >>= clocks_said d) >>= λ h. Some (start_with a b (maker_within c) d h))
+named_at_once None n m k g = refl
+named_at_once (Some a) None m k g = refl
+named_at_once (Some a) (Some b) None k g = refl
+named_at_once (Some a) (Some b) (Some c) None g = refl
+named_at_once (Some a) (Some b) (Some c) (Some d) g =
+    ap start_within (clocks_regrouped d g (λ h. Some (start_with a b c d h))) ∙ named-clocks a b c d (g >>= clocks_said d)
 
 by_fields : (f : List ℕ) (fs : List (List ℕ)) → start_within (start_by (f ∷ fs)) ≡ (fairness_of f >>= λ a. stock_by a fs)
 unfolding start_by

@@ -1,9 +1,9 @@
 -- What a letter says with the numbers of a line, from one number to the next.
+use Rattle.std.specs.Prelude.{Option, None, Some}
 use Prim.Native.Nat.{ℕ, ◌+◌, ◌≤◌, ◌<◌}
 use native.Mathlib.Omega.{arith}
 use mathlib.Core.Path.{◌≡◌, refl, ap, sym, subst, ◌∙◌}
 use mathlib.Core.List.{List, [], ◌∷◌, ◌++◌}
-use mathlib.Core.Option.{Option, none, some}
 use lib.ListN.{length, drop}
 use lib.Seq.{append_snoc}
 use Rattle.rules.specs.declared.Step.{Step}
@@ -18,9 +18,9 @@ use Rattle.script.proofs.Letters.{more_unsaid, by_letter}
 
 -- the numbers of a line's fields that begin with what was read
 numbers_from : List ℕ → Reading → Option (List ℕ)
-numbers_from line (Last n) = some (n ∷ [])
-numbers_from line (Then n next) = numbers_of (fields (drop next line)) >>= λ ns. some (n ∷ ns)
-numbers_from line Other = none
+numbers_from line (Last n) = Some (n ∷ [])
+numbers_from line (Then n next) = numbers_of (fields (drop next line)) >>= λ ns. Some (n ∷ ns)
+numbers_from line Other = None
 
 numbers-read : (line : List ℕ) (at : ℕ) (r : Reading) → ReadAt line at r → numbers_of (fields (drop at line)) ≡ numbers_from line r
 unfolding numbers_of numbers_from
@@ -36,7 +36,7 @@ module _ (c : ℕ) (ns line : List ℕ) (at : ℕ) (r : Reading) (read : ReadAt 
   so : (q : Reading) → r ≡ q → saying_on c ns line at ≡ within (numbers_from line q >>= λ ms. step_with (c ∷ []) (ns ++ ms))
   so q e = rw (numbers-read line at q (subst (ReadAt line at) e read))
 
-  pub said_other : r ≡ Other → none ≡ saying_on c ns line at
+  pub said_other : r ≡ Other → None ≡ saying_on c ns line at
   unfolding numbers_from
   said_other e = sym (so Other e)
 
@@ -48,30 +48,30 @@ module _ (c : ℕ) (ns line : List ℕ) (at : ℕ) (r : Reading) (read : ReadAt 
   unfolding numbers_from
   said_then m next o e q = q ∙ regroup (numbers_of (fields (drop next line))) ∙ sym (so (Then m next) e)
     where
-      regroup : (k : Option (List ℕ)) → within (k >>= λ ms. step_with (c ∷ []) (ns ++ m ∷ [] ++ ms)) ≡ within ((k >>= λ ms. some (m ∷ ms)) >>= λ ms. step_with (c ∷ []) (ns ++ ms))
-      regroup none = refl
-      regroup (some ms) = rw (append_snoc ns m ms)
+      regroup : (k : Option (List ℕ)) → within (k >>= λ ms. step_with (c ∷ []) (ns ++ m ∷ [] ++ ms)) ≡ within ((k >>= λ ms. Some (m ∷ ms)) >>= λ ms. step_with (c ∷ []) (ns ++ ms))
+      regroup None = refl
+      regroup (Some ms) = rw (append_snoc ns m ms)
 
 -- a line has fields from any place on, so that a fourth number is read, or none at all
 module _ (c t n m : ℕ) (line : List ℕ) (next : ℕ) where
-  by_fields : (o : Option ℕ) (p : Option (List ℕ)) → none ≡ within ((o >>= λ k. p >>= λ ks. some (k ∷ ks)) >>= λ ms. step_with (c ∷ []) (t ∷ n ∷ m ∷ ms))
-  by_fields none p = refl
-  by_fields (some k) none = refl
-  by_fields (some k) (some ks) = more_unsaid c t n m k ks
+  by_fields : (o : Option ℕ) (p : Option (List ℕ)) → None ≡ within ((o >>= λ k. p >>= λ ks. Some (k ∷ ks)) >>= λ ms. step_with (c ∷ []) (t ∷ n ∷ m ∷ ms))
+  by_fields None p = refl
+  by_fields (Some k) None = refl
+  by_fields (Some k) (Some ks) = more_unsaid c t n m k ks
 
-  too_many_lem : none ≡ saying_on c (t ∷ n ∷ m ∷ []) line next
+  too_many_lem : None ≡ saying_on c (t ∷ n ∷ m ∷ []) line next
   unfolding numbers_of
   too_many_lem = rw (parts_front space (drop next line)) (by_fields (number_of (before space (drop next line))) (numbers_of (drop 1 (parts space (drop next line)))))
 
-pub said_too_much : (c t n m next : ℕ) (line : List ℕ) (at : ℕ) (r : Reading) → ReadAt line at r → r ≡ Then m next → none ≡ saying_on c (t ∷ n ∷ []) line at
-said_too_much c t n m next line at r read e = said_then c (t ∷ n ∷ []) line at r read m next none e (too_many_lem c t n m line next)
+pub said_too_much : (c t n m next : ℕ) (line : List ℕ) (at : ℕ) (r : Reading) → ReadAt line at r → r ≡ Then m next → None ≡ saying_on c (t ∷ n ∷ []) line at
+said_too_much c t n m next line at r read e = said_then c (t ∷ n ∷ []) line at r read m next None e (too_many_lem c t n m line next)
 
 -- The letter of a line.
 module _ (line f : List ℕ) (is : f ≡ before space (drop 0 line)) where
   starts : length f ≡ 0 + length (before space (drop 0 line))
   starts = ap length is ∙ omega arith
 
-  pub step-alone : length line ≤ length f → none ≡ within (step_of line)
+  pub step-alone : length line ≤ length f → None ≡ within (step_of line)
   unfolding step_by numbers_of
   step-alone h = rw (parts-ended space line 0 (length f) starts h)
 
@@ -80,6 +80,6 @@ module _ (line f : List ℕ) (is : f ≡ before space (drop 0 line)) where
   step-on letter o l h q = q ∙ rw (parts_onward space line 0 (length f) starts h, ← is, l) (lettered (numbers_of (fields (drop (length f + 1) line))))
     where
       lettered : (k : Option (List ℕ)) → within (k >>= λ ms. step_with (letter_of f ∷ []) ms) ≡ within (k >>= step_with f)
-      lettered none = refl
-      lettered (some []) = refl
-      lettered (some (t ∷ ns)) = rw (by_letter f ns)
+      lettered None = refl
+      lettered (Some []) = refl
+      lettered (Some (t ∷ ns)) = rw (by_letter f ns)

@@ -1,10 +1,10 @@
 -- A number above 255 names no task and no slot, so that 255 in its place makes no difference.
+use Rattle.std.specs.Prelude.{Option, None, Some}
 use Prim.Native.Nat.{ℕ, min, ◌≤◌}
 use native.Mathlib.Decide.{dec_le}
 use native.Mathlib.Omega.{arith}
 use mathlib.Core.Path.{◌≡◌, refl, ap, sym, ◌∙◌}
 use mathlib.Core.Bool.{true}
-use mathlib.Core.Option.{Option, none, some}
 use lib.ListN.{length}
 use Rattle.rules.specs.declared.TaskId.{TaskId}
 use Rattle.rules.specs.declared.Slot.{Slot}
@@ -70,7 +70,7 @@ data Kept (a : Start) : Type 0 where
   kept : start_named a ≡ a → Kept a
   refused_both : refuses12 (start_named a) ≡ true → refuses12 a ≡ true → Kept a
 
-refused-maker : (a : Start) (t : TaskId) → a.maker ≡ some t → 255 ≤ t.0 → refuses12 a ≡ true
+refused-maker : (a : Start) (t : TaskId) → a.maker ≡ Some t → 255 ≤ t.0 → refuses12 a ≡ true
 refused-maker a t e h =
     elim (dec_le a.tasks t.0) [ yes l ↦ no_such_maker a t e l | no l ↦ many_tasks a (omega arith) ]
 
@@ -78,11 +78,11 @@ same-maker : (a : Start) → maker_within a.maker ≡ a.maker → start_named a 
 same-maker a p = λ i. record { fairness = a.fairness; stock = a.stock; tasks = a.tasks; clocks = a.clocks; maker = p i }
 
 keep : (a : Start) (m : Option TaskId) → a.maker ≡ m → Kept a
-keep a none e = kept (same-maker a (ap maker_within e ∙ sym e))
-keep a (some t) e =
+keep a None e = kept (same-maker a (ap maker_within e ∙ sym e))
+keep a (Some t) e =
     elim (dec_le t.0 255) [
       | yes h ↦
-          let named : maker_within (some t) ≡ some t = rw (itself t.0 h) in
+          let named : maker_within (Some t) ≡ Some t = rw (itself t.0 h) in
           kept (same-maker a (ap maker_within e ∙ named ∙ sym e))
       | no h ↦ refused_both (refused-maker (start_named a) (task_named t.0) (ap maker_within e) (omega arith)) (refused-maker a t e (omega arith))
     ]

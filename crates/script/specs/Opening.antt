@@ -1,6 +1,5 @@
 -- What the readers of a first line answer, as the rules see it.
-use Rattle.std.specs.Prelude.{ℕ, ◌≤◌, ◌≡◌, List, [], ◌∷◌, length, drop}
-use Rattle.std.proofs.Math.Option.{Option, none, some, map}
+use Rattle.std.specs.Prelude.{ℕ, ◌≤◌, ◌≡◌, List, [], ◌∷◌, length, drop, Option, None, Some, option_map}
 use Rattle.rules.specs.declared.TaskId.{TaskId}
 use Rattle.rules.specs.declared.Fairness.{Fairness}
 use Rattle.rules.specs.Fresh.{Start}
@@ -15,8 +14,8 @@ use Rattle.script.specs.declared.Opening.TheVariants.{Spawned, Given, Bad}
 use Rattle.script.specs.Saying.{task_named}
 
 abbrev pub maker_said : Maker → Option TaskId
-maker_said (Task t) = some t
-maker_said Nobody = none
+maker_said (Task t) = Some t
+maker_said Nobody = None
 
 -- a start with its clocks
 abbrev pub start_said : First → List ℕ → Start
@@ -30,11 +29,11 @@ clocks_by k fs = do
 
 -- the start that an answer tells: its clocks are spawned, or stand in the line from a place on
 abbrev pub opened : List ℕ → Opening → Option Start
-opened line (Spawned a) = some (start_said a (spawned a.tasks))
+opened line (Spawned a) = Some (start_said a (spawned a.tasks))
 opened line (Given a at) = do
   clocks ← clocks_by a.tasks (fields (drop at line))
-  some (start_said a clocks)
-opened line Bad = none
+  Some (start_said a clocks)
+opened line Bad = None
 
 abbrev pub PlaceWithin : List ℕ → Opening → Type 0
 PlaceWithin line (Spawned a) = Unit {0}
@@ -48,30 +47,30 @@ pub record Opens (line : List ℕ) (o : Option Start) (r : Opening) : Type 0 whe
 
 -- a start with its maker named as in a step
 abbrev pub maker_within : Option TaskId → Option TaskId
-maker_within m = map (λ (t : TaskId). task_named t.0) m
+maker_within m = option_map (λ (t : TaskId). task_named t.0) m
 
 abbrev pub start_named : Start → Start
 start_named a = record { fairness = a.fairness; stock = a.stock; tasks = a.tasks; clocks = a.clocks; maker = maker_within a.maker }
 
 abbrev pub start_within : Option Start → Option Start
-start_within o = map start_named o
+start_within o = option_map start_named o
 
 -- what fields say: the tasks and their clocks; the maker and these; the stock and these
 abbrev pub tasks_by : Fairness → ℕ → Option TaskId → List (List ℕ) → Option Start
-tasks_by f n m [] = none
+tasks_by f n m [] = None
 tasks_by f n m (k ∷ fs) = do
   tasks ← number_of k
   clocks ← clocks_by tasks fs
-  some (start_with f n m tasks clocks)
+  Some (start_with f n m tasks clocks)
 
 abbrev pub maker_by : Fairness → ℕ → List (List ℕ) → Option Start
-maker_by f n [] = none
+maker_by f n [] = None
 maker_by f n (m ∷ fs) = do
   maker ← maker_of m
   tasks_by f n (maker_within maker) fs
 
 abbrev pub stock_by : Fairness → List (List ℕ) → Option Start
-stock_by f [] = none
+stock_by f [] = None
 stock_by f (n ∷ fs) = do
   stock ← number_of n
   maker_by f stock fs

@@ -1,6 +1,5 @@
 -- What the readers of lines answer, as the rules see it.
-use Rattle.std.specs.Prelude.{ℕ, min, drop, List, [], ◌∷◌, ◌++◌}
-use Rattle.std.proofs.Math.Option.{Option, none, some, map}
+use Rattle.std.specs.Prelude.{ℕ, min, drop, List, [], ◌∷◌, ◌++◌, Option, None, Some, option_map}
 use Rattle.rules.specs.declared.TaskId.{TaskId}
 use Rattle.rules.specs.declared.Slot.{Slot}
 use Rattle.rules.specs.declared.Act.{Act}
@@ -37,16 +36,16 @@ abbrev pub step_within : Step → Step
 step_within a = record { actor = task_named a.actor.0; act = act_within a.act }
 
 abbrev pub within : Option Step → Option Step
-within o = map step_within o
+within o = option_map step_within o
 
 -- the step that an answer tells
 abbrev pub parsed : Parsed → Option Step
-parsed (Is a) = some a
-parsed Bad = none
+parsed (Is a) = Some a
+parsed Bad = None
 
 -- an actor's step
 abbrev pub acting_by : ℕ → Act → Option Step
-acting_by t a = some (record { actor = task_named t; act = a })
+acting_by t a = Some (record { actor = task_named t; act = a })
 
 -- what a letter says with some numbers, and with some numbers and those that stand in a line from a place on
 abbrev pub saying : ℕ → List ℕ → Option Step

@@ -1,10 +1,10 @@
 -- No second answer fits: two results that meet the contract of a step of the same struct and words have the same answer, the same grants
 -- (as many, too) and the same state; and where the step is refused, both are the very struct and the very words handed in.
+use Rattle.std.specs.Prelude.{Option, None, Some}
 use Prim.Native.Nat.{ℕ}
 use mathlib.Core.Path.{◌≡◌, refl, sym, ap, ◌∙◌}
 use mathlib.Core.Bool.{Bool, true, false}
 use mathlib.Core.List.{List}
-use mathlib.Core.Option.{Option, none, some}
 use lib.ListN.{length}
 use Rattle.rules.specs.declared.Step.{Step}
 use Rattle.rules.specs.Refusals.{refusal}
@@ -33,8 +33,8 @@ module _ (s : BatchSemaphore) (w : Words) (gs : List ℕ) (a : Step) (r q : Step
   one_answer = by_broken (is_broken s w gs) refl
     where
       by_refusal : is_broken s w gs ≡ false → (o : Option ℕ) → refusal a (view_of s w) ≡ o → outcome_of r v hs ≡ outcome_of q u is
-      by_refusal f none e = h.accepted f e ∙ sym (k.accepted f e)
-      by_refusal f (some n) e = same-refusal n (h.refused f n e) (k.refused f n e)
+      by_refusal f None e = h.accepted f e ∙ sym (k.accepted f e)
+      by_refusal f (Some n) e = same-refusal n (h.refused f n e) (k.refused f n e)
 
       by_broken : (b : Bool) → is_broken s w gs ≡ b → outcome_of r v hs ≡ outcome_of q u is
       by_broken true f = same-refusal 14 (h.broken f) (k.broken f)
@@ -50,5 +50,5 @@ module _ (s : BatchSemaphore) (w : Words) (gs : List ℕ) (a : Step) (r q : Step
   pub broken-same : is_broken s w gs ≡ true → SameLeft r v hs q u is
   broken-same f = same_left 14 (h.broken f) (k.broken f)
 
-  pub refused-same : is_broken s w gs ≡ false → (n : ℕ) → refusal a (view_of s w) ≡ some n → SameLeft r v hs q u is
+  pub refused-same : is_broken s w gs ≡ false → (n : ℕ) → refusal a (view_of s w) ≡ Some n → SameLeft r v hs q u is
   refused-same f n e = same_left n (h.refused f n e) (k.refused f n e)

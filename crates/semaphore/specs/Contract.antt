@@ -1,6 +1,5 @@
 -- What every call owes: refusals by number with the very struct and the very words handed in, and else the outcome of document 01's step.
-use Rattle.std.specs.Prelude.{ℕ, ◌≡◌, true, false, List}
-use Rattle.std.proofs.Math.Option.{none, some}
+use Rattle.std.specs.Prelude.{ℕ, ◌≡◌, true, false, List, None, Some}
 use Rattle.rules.specs.declared.Step.{Step}
 use Rattle.rules.specs.Steps.{effect}
 use Rattle.rules.specs.Refusals.{refusal}
@@ -15,8 +14,8 @@ pub record Steps (s : BatchSemaphore) (w : Words) (gs : List ℕ) (a : Step) (r 
   -- what is broken is refused with 14
   pub broken : is_broken s w gs ≡ true → Refuses 14 s w gs r v hs
   -- else the first number that the step meets is given
-  pub refused : is_broken s w gs ≡ false → (n : ℕ) → refusal a (view_of s w) ≡ some n → Refuses n s w gs r v hs
+  pub refused : is_broken s w gs ≡ false → (n : ℕ) → refusal a (view_of s w) ≡ Some n → Refuses n s w gs r v hs
   -- and where it meets none, answer, grants (their number too) and state are the rules' outcome of the step
-  pub accepted : is_broken s w gs ≡ false → refusal a (view_of s w) ≡ none → outcome_of r v hs ≡ effect a (view_of s w)
+  pub accepted : is_broken s w gs ≡ false → refusal a (view_of s w) ≡ None → outcome_of r v hs ≡ effect a (view_of s w)
   -- what comes back is broken only if what was handed in was
   pub unbroken : is_broken s w gs ≡ false → is_broken r.state v hs ≡ false

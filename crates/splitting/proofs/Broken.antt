@@ -1,11 +1,10 @@
 -- Row 14's clauses, those of the plain part grouped as a program looks at them, say the same as in the document's order.
+use Rattle.std.specs.Prelude.{Option, None, Some, is_some, unwrap_or}
 use Prim.Native.Nat.{ℕ}
 use native.Mathlib.Omega.{arith}
 use mathlib.Core.Path.{◌≡◌, refl, sym, ap, ◌∙◌}
 use mathlib.Core.Bool.{Bool, true, false, not, ◌&&◌, ◌||◌, beq}
 use mathlib.Core.List.{List, [], ◌∷◌}
-use mathlib.Core.Option
-use mathlib.Core.Option.{Option, none, some}
 use borrow.Author.Tests.{leb-false, not-false}
 use lib.Dec.{leb, ltb, eqb}
 use lib.ListN.{length, get_or}
@@ -13,7 +12,7 @@ use Rattle.rules.specs.declared.Slot.{Slot}
 use Rattle.rules.specs.Sizes.{max_tasks, slot_count}
 use Rattle.rules.specs.Request as R
 use Rattle.rules.specs.State as S
-use Rattle.rules.specs.State.{State, is_some}
+use Rattle.rules.specs.State.{State}
 use Rattle.rules.specs.Refusals.{bad_reserving}
 use Rattle.rules.specs.Broken as F
 use Rattle.rules.specs.Broken.{any_of, member, every_slot, reserved_slots, is_beyond, broken}
@@ -70,7 +69,7 @@ module _ (s : State) where
   named x = member x s.queue && (S.in_use x s && (F.asks_nothing s x || F.cannot_wait s x))
 
   slot_clauses : (x : Slot) → is_misfit p x ≡ marks x || named x
-  slot_clauses x = rw (count-plain s, slot-plain x s) (go (get_or s.slots x.0 none))
+  slot_clauses x = rw (count-plain s, slot-plain x s) (go (get_or s.slots x.0 None))
     where
       m : Bool
       m = member x s.queue
@@ -83,11 +82,11 @@ module _ (s : State) where
       and_none false = refl
 
       go : (o : Option R.Request) → misfits n (S.strict s) m (forget_slot o)
-          ≡ ((is_some o && not (beq (Option.get_or o R.no_request).queued m))
-          || ((Option.get_or o R.no_request).ask.reserving && (S.strict s || bad_reserving (Option.get_or o R.no_request).ask.least (Option.get_or o R.no_request).ask.asked)))
-          || (m && (is_some o && (eqb (Option.get_or o R.no_request).ask.asked 0 || ((Option.get_or o R.no_request).holding || (Option.get_or o R.no_request).completed || leb n (Option.get_or o R.no_request).task.0))))
-      go none = sym (and_none m)
-      go (some r) = refl
+          ≡ ((is_some o && not (beq (unwrap_or o R.no_request).queued m))
+          || ((unwrap_or o R.no_request).ask.reserving && (S.strict s || bad_reserving (unwrap_or o R.no_request).ask.least (unwrap_or o R.no_request).ask.asked)))
+          || (m && (is_some o && (eqb (unwrap_or o R.no_request).ask.asked 0 || ((unwrap_or o R.no_request).holding || (unwrap_or o R.no_request).completed || leb n (unwrap_or o R.no_request).task.0))))
+      go None = sym (and_none m)
+      go (Some r) = refl
 
   free-plain : any_of (is_free p) s.queue ≡ any_of (F.is_free s) s.queue
   free-plain = any_same (is_free p) (F.is_free s) s.queue (λ x. ap not (used-plain x s))

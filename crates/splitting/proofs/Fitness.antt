@@ -1,9 +1,9 @@
 -- A sound state's plain part is sound, and a state is sound whose plain part and permits are; what an accepted step keeps.
+use Rattle.std.specs.Prelude.{None}
 use Prim.Native.Nat.{ℕ}
 use native.Mathlib.Omega.{arith}
 use mathlib.Core.Path.{◌≡◌, sym, ap, subst, ◌∙◌}
 use mathlib.Core.Bool.{false}
-use mathlib.Core.Option.{none}
 use lib.ListN.{length, length-map}
 use Rattle.rules.specs.declared.TaskId.{TaskId}
 use Rattle.rules.specs.declared.Slot.{Slot}
@@ -125,7 +125,7 @@ lift-permits p bs e = let z : ◌≡◌ {A = ℕ} 0 1 = cc in absurd (omega arit
 pub sound-lift : (p : Plain) → SoundPlain p → Sound (lift p)
 sound-lift p h = sound_recalls (lift p) (subst SoundPlain (sym (forget-lift p)) h) (lift-permits p)
 
-pub sound-plain-effect : (a : Step) (p : Plain) → W.refusal a p ≡ none → SoundPlain p → SoundPlain (W.effect a p).state
+pub sound-plain-effect : (a : Step) (p : Plain) → W.refusal a p ≡ None → SoundPlain p → SoundPlain (W.effect a p).state
 sound-plain-effect a p e h =
     subst SoundPlain (ap (λ (o : W.Outcome). o.state) (sym (plain_of_lift a p)))
     (sound_forgets _ (sound-effect a (lift p) (sym (refusal_of_lift a p) ∙ e) (sound-lift p h)))

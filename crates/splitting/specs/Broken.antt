@@ -1,7 +1,6 @@
 -- Document 01's row 14 in two parts: what is broken in the plain part, its clauses grouped by what they look at, and in the batches.
-use Rattle.std.specs.Prelude.{ℕ, Bool, false, not, ◌&&◌, ◌||◌, List, leb, ltb, eqb, length, get_or}
+use Rattle.std.specs.Prelude.{ℕ, Bool, false, not, ◌&&◌, ◌||◌, List, leb, ltb, eqb, length, get_or, Option, None, Some}
 use Rattle.std.specs.Bool.{beq}
-use Rattle.std.proofs.Math.Option.{Option, none, some}
 use Rattle.rules.specs.declared.Slot.{Slot}
 use Rattle.rules.specs.Sizes.{max_tasks, slot_count, batch_count}
 use Rattle.rules.specs.State.{Batch}
@@ -16,14 +15,14 @@ cannot_wait n r = r.holding || r.completed || leb n r.task.0
 -- of n tasks, strictly fair or not, and named by the queue or not: in use, and marked other than named, reserving as 6 or 7 would refuse, or
 -- named and asking for nothing or unable to wait
 abbrev pub misfits : ℕ → Bool → Bool → Option Request → Bool
-misfits n fair named none = false
-misfits n fair named (some r) =
+misfits n fair named None = false
+misfits n fair named (Some r) =
     not (beq r.queued named)
     || (r.ask.reserving && (fair || bad_reserving r.ask.least r.ask.asked))
     || (named && (eqb r.ask.asked 0 || cannot_wait n r))
 
 abbrev pub is_misfit : Plain → Slot → Bool
-is_misfit p x = misfits (length p.tasks) (strict p) (member x p.queue) (get_or p.slots x.0 none)
+is_misfit p x = misfits (length p.tasks) (strict p) (member x p.queue) (get_or p.slots x.0 None)
 
 abbrev pub is_free : Plain → Slot → Bool
 is_free p x = not (in_use x p)

@@ -1,6 +1,5 @@
 -- A state that 14 does not refuse, as facts, in so far as they speak of the plain part: all but what batches add up to.
-use Rattle.std.specs.Prelude.{◌≤◌, ◌<◌, ◌≡◌, true, false, [], length}
-use Rattle.std.proofs.Math.Option.{none, some}
+use Rattle.std.specs.Prelude.{◌≤◌, ◌<◌, ◌≡◌, true, false, [], length, None, Some}
 use Rattle.rules.specs.declared.Slot.{Slot}
 use Rattle.rules.specs.Sizes.{max_tasks, slot_count}
 use Rattle.rules.specs.Broken.{member, twice}
@@ -33,6 +32,6 @@ pub record SoundPlain (s : Plain) : Type 0 where
   pub once : twice s.queue ≡ false
   pub queued : (x : Slot) → member x s.queue ≡ true → Waits s x
   pub marked : (x : Slot) → (request_at x s).queued ≡ member x s.queue
-  pub reserves : (x : Slot) → s.reservation ≡ some x → IsReserved s x
+  pub reserves : (x : Slot) → s.reservation ≡ Some x → IsReserved s x
   pub made : (x : Slot) → (request_at x s).ask.reserving ≡ true → WellMade s x
-  pub closed : s.closed ≡ true → (s.queue ≡ []) × (s.reservation ≡ none)
+  pub closed : s.closed ≡ true → (s.queue ≡ []) × (s.reservation ≡ None)

@@ -1,4 +1,5 @@
 -- The view of the whole: its plain part, its permits, and what is read of its tasks and slots.
+use Rattle.std.specs.Prelude.{Option, None, Some, is_some, unwrap_or}
 use Prim.Native.Nat.{ℕ, zero, suc, ◌+◌, ◌*◌, ◌≤◌, ◌<◌, min}
 use native.Mathlib.Decide.{dec_lt}
 use native.Mathlib.Nat.{zero-add, le_of_suc-le-suc}
@@ -6,8 +7,6 @@ use native.Mathlib.Omega.{arith}
 use mathlib.Core.Path.{◌≡◌, refl, sym, ap, ◌∙◌}
 use mathlib.Core.Bool.{Bool, true, false, cond}
 use mathlib.Core.List.{List, [], ◌∷◌, map}
-use mathlib.Core.Option
-use mathlib.Core.Option.{Option, none, some}
 use lib.ListN.{length, get_or, take, get_or-eq_default}
 use lib.Seq.{get_or-take}
 use Rattle.rules.specs.declared.TaskId.{TaskId}
@@ -16,7 +15,7 @@ use Rattle.rules.specs.Sizes.{width, max_tasks, slot_count}
 use Rattle.rules.specs.Clock.{Clock, empty}
 use Rattle.rules.specs.Task as T
 use Rattle.rules.specs.Request as R
-use Rattle.rules.specs.State.{is_some, available, task_at, in_use, request_at}
+use Rattle.rules.specs.State.{available, task_at, in_use, request_at}
 use Rattle.splitting.specs.Plain as P
 use Rattle.splitting.specs.Split.{forget, forget_task, forget_request, whole_tasks, whole_slots, whole}
 use Rattle.splitting.specs.Kept.{in_slots}
@@ -71,23 +70,23 @@ whole_length_lem (a ∷ ts) (c ∷ cs) = ap suc (whole_length_lem ts cs)
 
 -- in use, its maker's clock; in a free slot the empty one
 request-clock : (rs : List (Option P.Request)) (cs : List Clock) (i : ℕ)
-    → (Option.get_or (get_or (whole_slots rs (in_slots (map is_some rs) cs)) i none) R.no_request).clock ≡ cond (is_some (get_or rs i none)) (get_or cs i (empty width)) (empty width)
+    → (unwrap_or (get_or (whole_slots rs (in_slots (map is_some rs) cs)) i None) R.no_request).clock ≡ cond (is_some (get_or rs i None)) (get_or cs i (empty width)) (empty width)
 unfolding whole_slots in_slots
 request-clock [] cs i = refl
-request-clock (none ∷ rs) [] zero = refl
-request-clock (none ∷ rs) (c ∷ cs) zero = refl
-request-clock (some r ∷ rs) [] zero = refl
-request-clock (some r ∷ rs) (c ∷ cs) zero = refl
-request-clock (none ∷ rs) [] (suc i) = request-clock rs [] i
-request-clock (none ∷ rs) (c ∷ cs) (suc i) = request-clock rs cs i
-request-clock (some r ∷ rs) [] (suc i) = request-clock rs [] i
-request-clock (some r ∷ rs) (c ∷ cs) (suc i) = request-clock rs cs i
+request-clock (None ∷ rs) [] zero = refl
+request-clock (None ∷ rs) (c ∷ cs) zero = refl
+request-clock (Some r ∷ rs) [] zero = refl
+request-clock (Some r ∷ rs) (c ∷ cs) zero = refl
+request-clock (None ∷ rs) [] (suc i) = request-clock rs [] i
+request-clock (None ∷ rs) (c ∷ cs) (suc i) = request-clock rs cs i
+request-clock (Some r ∷ rs) [] (suc i) = request-clock rs [] i
+request-clock (Some r ∷ rs) (c ∷ cs) (suc i) = request-clock rs cs i
 
 -- ---- reads
 reserved-made : (v : Reservation) → is_some (reservation_of v) ≡ v.made
 reserved-made v = go v.made
   where
-    go : (b : Bool) → is_some (cond b (some v.slot) none) ≡ b
+    go : (b : Bool) → is_some (cond b (Some v.slot) None) ≡ b
     go true = refl
     go false = refl
 
@@ -139,11 +138,11 @@ module _ (s : BatchSemaphore) (t : TaskId) (c : VectorClock) where
 stands-used : (r : Request) (o : Option P.Request) → Stands r o → r.used ≡ is_some o
 stands-used r o h = rw (← h.used) (go r.used)
   where
-    go : (b : Bool) → b ≡ is_some (cond b (some (request_of r)) none)
+    go : (b : Bool) → b ≡ is_some (cond b (Some (request_of r)) None)
     go true = refl
     go false = refl
 
-module _ (s : BatchSemaphore) (x : Slot) (xs : List ℕ) (r : Request) (h : Stands r (get_or (slots_of xs) x.0 none)) where
+module _ (s : BatchSemaphore) (x : Slot) (xs : List ℕ) (r : Request) (h : Stands r (get_or (slots_of xs) x.0 None)) where
   pub request-read : (w : Words) → w.slots ≡ xs → RequestRead r x (view_of s w)
   request-read w q =
       record {

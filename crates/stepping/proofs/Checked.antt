@@ -1,12 +1,11 @@
 -- The first refusal of a step, by what each check said before.
+use Rattle.std.specs.Prelude.{Option, None, Some, is_some}
 use Prim.Native.Nat.{ℕ}
 use mathlib.Core.Path.{◌≡◌, refl, sym, ap, ◌∙◌}
 use mathlib.Core.Bool.{Bool, true, false, not, false≢true}
 use mathlib.Core.List.{List}
-use mathlib.Core.Option.{Option, none, some}
 use borrow.Author.Tests.{not-true, not-false}
 use Rattle.rules.specs.declared.TaskId.{TaskId}
-use Rattle.rules.specs.State.{is_some}
 use Rattle.rules.specs.Refusals.{first}
 use Rattle.splitting.specs.Parts.{or_else}
 use Rattle.replies.specs.declared.Check.{Check}
@@ -22,13 +21,13 @@ use Rattle.stepping.specs.Contract.{Checks}
 pub is_some_lem : (o : Option ℕ) (b : Bool) → b ≡ not (is_some o) → not b ≡ true → is_some o ≡ true
 is_some_lem o b e n = not-false (is_some o) (sym e ∙ not-true b n)
 
-pub is_none : (o : Option ℕ) (b : Bool) → b ≡ not (is_some o) → not b ≡ false → o ≡ none
-is_none none b e n = refl
-is_none (some k) b e n = absurd (false≢true (sym e ∙ not-false b n))
+pub is_none : (o : Option ℕ) (b : Bool) → b ≡ not (is_some o) → not b ≡ false → o ≡ None
+is_none None b e n = refl
+is_none (Some k) b e n = absurd (false≢true (sym e ∙ not-false b n))
 
 first-is : (o l : Option ℕ) → is_some o ≡ true → o ≡ or_else o l
-first-is none l e = absurd (false≢true e)
-first-is (some n) l e = refl
+first-is None l e = absurd (false≢true e)
+first-is (Some n) l e = refl
 
 module _ (s : BatchSemaphore) (ts cs : List ℕ) (t : TaskId) (p : Plan) where
   abbrev SaysActor : Check → Type 0

@@ -1,10 +1,11 @@
 -- A state that is held, in its two parts: the refusals, and the outcome of an accepted step, from what each part gave.
+use Rattle.std.specs.Prelude.{Option, None, Some}
+use Rattle.std.proofs.lemmas.Option.{none-some}
 use Prim.Native.Nat.{ℕ, ◌≤◌, ◌<◌}
 use native.Mathlib.Omega.{arith}
 use mathlib.Core.Path.{◌≡◌, refl, sym, ap, subst, ◌∙◌}
 use mathlib.Core.Bool.{Bool, true, false}
 use mathlib.Core.List.{List, [], ◌∷◌}
-use mathlib.Core.Option.{Option, none, some, none-ne-some}
 use borrow.Author.Tests.{leb-false}
 use lib.Dec.{leb}
 use lib.ListN.{length}
@@ -41,18 +42,18 @@ use Rattle.state.specs.declared.BatchSemaphore.{BatchSemaphore}
 use Rattle.state.specs.declared.Stepped.{Stepped}
 use Rattle.state.specs.View.{Words, plain_in, kept_in, view_of, outcome_of, Fit}
 
-actor-below : (a : Step) (p : Plain) → W.refusal a p ≡ none → a.actor.0 < length p.tasks
+actor-below : (a : Step) (p : Plain) → W.refusal a p ≡ None → a.actor.0 < length p.tasks
 unfolding W.refusal
 actor-below a p e = go (leb (length p.tasks) a.actor.0) refl e
   where
     go : (b : Bool) → leb (length p.tasks) a.actor.0 ≡ b
-        → first (1 if b ∷ 2 if W.not_runnable a.actor p ∷ W.grounds a.act p) ≡ none → a.actor.0 < length p.tasks
-    go true q h = absurd (none-ne-some 1 (sym h))
+        → first (1 if b ∷ 2 if W.not_runnable a.actor p ∷ W.grounds a.act p) ≡ None → a.actor.0 < length p.tasks
+    go true q h = absurd (none-some 1 (sym h))
     go false q h = leb-false (length p.tasks) a.actor.0 q
 
-neither : (a b : Option ℕ) → or_else a b ≡ none → (a ≡ none) × (b ≡ none)
-neither none b e = (refl, e)
-neither (some n) b e = absurd (none-ne-some n (sym e))
+neither : (a b : Option ℕ) → or_else a b ≡ None → (a ≡ None) × (b ≡ None)
+neither None b e = (refl, e)
+neither (Some n) b e = absurd (none-some n (sym e))
 
 module _ (s : BatchSemaphore) (w : Words) (gs : List ℕ) (f : Fit s w gs) where
   abbrev p : Plain
@@ -80,14 +81,14 @@ module _ (s : BatchSemaphore) (w : Words) (gs : List ℕ) (f : Fit s w gs) where
     refusal_both = refusal_here ∙ by_first (W.refusal a p) refl
       where
         by_first : (o : Option ℕ) → W.refusal a p ≡ o → or_else o (times_refusal a (known a p) (times_kept p k)) ≡ or_else o (refusal_kept a.actor (known a p) k)
-        by_first none e = sym (refusal-kept a p (known a p) k (actor-below a p e))
-        by_first (some n) e = refl
+        by_first None e = sym (refusal-kept a p (known a p) k (actor-below a p e))
+        by_first (Some n) e = refl
 
-    module _ (accepted : refusal a (view_of s w) ≡ none) where
-      pub plain_accepts : W.refusal a p ≡ none
+    module _ (accepted : refusal a (view_of s w) ≡ None) where
+      pub plain_accepts : W.refusal a p ≡ None
       plain_accepts = (neither (W.refusal a p) (refusal_kept a.actor (known a p) k) (sym refusal_both ∙ accepted)).0
 
-      late_accepts : refusal_kept a.actor (known a p) k ≡ none
+      late_accepts : refusal_kept a.actor (known a p) k ≡ None
       late_accepts = (neither (W.refusal a p) (refusal_kept a.actor (known a p) k) (sym refusal_both ∙ accepted)).1
 
       actor_here : a.actor.0 < max_tasks

@@ -1,12 +1,12 @@
 -- Each way out of a step that counts on a fit state: refused, or taken.
+use Rattle.std.specs.Prelude.{Option, None, Some, is_some}
+use Rattle.std.proofs.lemmas.Option.{none-some}
 use Prim.Native.Nat.{ℕ}
 use mathlib.Core.Path.{◌≡◌, refl, sym, ap, subst, ◌∙◌}
 use mathlib.Core.Bool.{Bool, true, false, not}
 use mathlib.Core.List.{List}
-use mathlib.Core.Option.{Option, none, some, none-ne-some}
 use native.Mathlib.Omega.{arith}
 use Rattle.rules.specs.declared.Step.{Step}
-use Rattle.rules.specs.State.{is_some}
 use Rattle.rules.specs.Steps.Answer.{refused}
 use Rattle.rules.specs.Refusals.{first, refusal}
 use Rattle.splitting.specs.Plain.{Plain}
@@ -30,7 +30,7 @@ use Rattle.stepping.specs.Contract.{NotAccepted, Checks, Taken, StepsOn}
 use Rattle.stepping.proofs.Composed.{refusal_both}
 use Rattle.stepping.proofs.Checked.{is_some_lem, is_none}
 
-one_number : {m n : ℕ} → ◌≡◌ {A = Option ℕ} (some m) (some n) → m ≡ n
+one_number : {m n : ℕ} → ◌≡◌ {A = Option ℕ} (Some m) (Some n) → m ≡ n
 one_number e = cc
 
 -- a check that was not accepted gives its number back
@@ -38,11 +38,11 @@ pub refused_as : (c : Check) (q : Refusal) (s : BatchSemaphore) → c ≡ CheckR
 refused_as c q s e = record { answer = λ n g. ap (λ (m : ℕ). refused m) (one_number (sym (ap given e) ∙ g)); count = refl; state = refl }
 
 pub accepted_as : (c : Check) (s : BatchSemaphore) → c ≡ Accepted → NotAccepted c s (record { reply = Done; count = 0; state = s })
-accepted_as c s e = record { answer = λ n g. absurd (none-ne-some n (sym (ap given e) ∙ g)); count = refl; state = refl }
+accepted_as c s e = record { answer = λ n g. absurd (none-some n (sym (ap given e) ∙ g)); count = refl; state = refl }
 
 or_else_again : (a b d : Option ℕ) → or_else a (or_else b d) ≡ or_else (or_else a b) d
-or_else_again none b d = refl
-or_else_again (some n) b d = refl
+or_else_again None b d = refl
+or_else_again (Some n) b d = refl
 
 module _ (s : BatchSemaphore) (w : Words) (gs : List ℕ) (f : Fit s w gs) (a : Step) where
   abbrev p : Plain
@@ -71,19 +71,19 @@ module _ (s : BatchSemaphore) (w : Words) (gs : List ℕ) (f : Fit s w gs) (a : 
           few = omega (arith, q.count);
         }
       where
-        absurd_by : {X : Type 0} (o : Option ℕ) → o ≡ none → is_some o ≡ true → X
-        absurd_by o e h = let z : is_some {A = ℕ} none ≡ true = subst (λ (q : Option ℕ). is_some q ≡ true) e h in absurd (false-true z)
+        absurd_by : {X : Type 0} (o : Option ℕ) → o ≡ None → is_some o ≡ true → X
+        absurd_by o e h = let z : is_some {T = ℕ} None ≡ true = subst (λ (q : Option ℕ). is_some q ≡ true) e h in absurd (false-true z)
           where
             false-true : false ≡ true → ⊥
             false-true e = let z : ◌≡◌ {A = ℕ} 0 1 = cc in omega arith
 
-    pub no_refusal : not b ≡ false → refusal a (view_of s w) ≡ none
+    pub no_refusal : not b ≡ false → refusal a (view_of s w) ≡ None
     no_refusal n = sym says ∙ is_none (given c) b told n
 
     pub taken_steps : (r : Stepped) (v : Words) (hs : List ℕ) → not b ≡ false → Taken s w a r v hs → StepsOn s w gs a r v hs
     taken_steps r v hs n q =
         record {
-          refused = λ m e. absurd (none-ne-some m (sym (no_refusal n) ∙ e));
+          refused = λ m e. absurd (none-some m (sym (no_refusal n) ∙ e));
           accepted = λ e. q.outcome;
           fit = q.fit;
           few = q.few;

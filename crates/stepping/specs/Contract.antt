@@ -1,6 +1,5 @@
 -- What every call owes: refusals by number with the very struct and the very words handed in, and else the outcome of document 01's step.
-use Rattle.std.specs.Prelude.{ℕ, ◌≤◌, ◌≡◌, List}
-use Rattle.std.proofs.Math.Option.{Option, none, some}
+use Rattle.std.specs.Prelude.{ℕ, ◌≤◌, ◌≡◌, List, Option, None, Some}
 use Rattle.rules.specs.declared.TaskId.{TaskId}
 use Rattle.rules.specs.declared.Step.{Step}
 use Rattle.rules.specs.Sizes.{slot_count}
@@ -30,9 +29,9 @@ pub record Refuses (n : ℕ) (s : BatchSemaphore) (w : Words) (gs : List ℕ) (r
 -- before, `v` and `hs` after.
 pub record StepsOn (s : BatchSemaphore) (w : Words) (gs : List ℕ) (a : Step) (r : Stepped) (v : Words) (hs : List ℕ) : Type 0 where
   -- the first number that the step meets is given
-  pub refused : (n : ℕ) → refusal a (view_of s w) ≡ some n → Refuses n s w gs r v hs
+  pub refused : (n : ℕ) → refusal a (view_of s w) ≡ Some n → Refuses n s w gs r v hs
   -- and where it meets none, answer, grants (their number too) and state are the rules' outcome of the step
-  pub accepted : refusal a (view_of s w) ≡ none → outcome_of r v hs ≡ effect a (view_of s w)
+  pub accepted : refusal a (view_of s w) ≡ None → outcome_of r v hs ≡ effect a (view_of s w)
   pub fit : Fit r.state v hs
   pub few : r.count ≤ slot_count
 
@@ -40,7 +39,7 @@ pub record StepsOn (s : BatchSemaphore) (w : Words) (gs : List ℕ) (a : Step) (
 pub record Due (s : BatchSemaphore) (w : Words) (gs : List ℕ) (a : Step) (l : Plan) : Type 0 where
   pub fit : Fit s w gs
   pub planned : Planned l a.act (plain_in s w)
-  pub unrefused : refusal a (view_of s w) ≡ none
+  pub unrefused : refusal a (view_of s w) ≡ None
 
 -- of a step that was not refused
 pub record Taken (s : BatchSemaphore) (w : Words) (a : Step) (r : Stepped) (v : Words) (hs : List ℕ) : Type 0 where
@@ -55,7 +54,7 @@ pub record RestTaken (s : BatchSemaphore) (a : Step) (y : Reply) (r : Stepped) (
 
 -- a step that a check did not accept
 pub record NotAccepted (c : Check) (s : BatchSemaphore) (r : Stepped) : Type 0 where
-  pub answer : (n : ℕ) → given c ≡ some n → answer_of r.reply ≡ refused n
+  pub answer : (n : ℕ) → given c ≡ Some n → answer_of r.reply ≡ refused n
   pub count : r.count ≡ 0
   pub state : r.state ≡ s
 

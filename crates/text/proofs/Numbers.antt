@@ -1,4 +1,5 @@
 -- Digits read one after the other: what one more says, and each way to stop.
+use Rattle.std.specs.Prelude.{Option, None, Some}
 use Prim.Native.Nat.{ℕ, suc, ◌+◌, ◌*◌, ◌-◌, ◌≤◌, ◌<◌}
 use native.Mathlib.Nat.{le_trans}
 use native.Mathlib.Numerals.{add-one}
@@ -6,7 +7,6 @@ use native.Mathlib.Omega.{arith}
 use mathlib.Core.Path.{◌≡◌, refl, sym, ◌∙◌}
 use mathlib.Core.Bool.{true, false, and-false}
 use mathlib.Core.List.{List, [], ◌∷◌}
-use mathlib.Core.Option.{Option, none, some}
 use lib.Dec.{leb}
 use lib.ListN.{length, get_or, drop, drop_of_length-le}
 use lib.Seq.{drop-cons}
@@ -21,21 +21,21 @@ unfolding value_from
 value_grows n [] = omega arith
 value_grows n (c ∷ cs) = le_trans (omega arith) (value_grows (n * 10 + (c - 48)) cs)
 
-too_large : (n : ℕ) (f : List ℕ) → largest < value_from n f → none ≡ number_from n f
+too_large : (n : ℕ) (f : List ℕ) → largest < value_from n f → None ≡ number_from n f
 unfolding number_from
 too_large n f l = rw (lt-leb (value_from n f) largest l, and-false)
 
 -- The digit b at the place i of a field, behind digits that say n.
 module _ (f : List ℕ) (n i b : ℕ) (h : i < length f) (e : b ≡ get_or f i 0) (so_far : number_from 0 f ≡ number_from n (drop i f)) where
-  pub stop_low : b < 48 → none ≡ number_from 0 f
+  pub stop_low : b < 48 → None ≡ number_from 0 f
   unfolding number_from all_digits
   stop_low l = rw (drop-cons f i 0 h, ← e, lt-leb 48 b l) at (sym so_far)
 
-  pub stop_high : 57 < b → none ≡ number_from 0 f
+  pub stop_high : 57 < b → None ≡ number_from 0 f
   unfolding number_from all_digits
   stop_high l = rw (drop-cons f i 0 h, ← e, lt-leb b 57 l, and-false (leb 48 b)) at (sym so_far)
 
-  pub stop_large : largest < n * 10 + (b - 48) → none ≡ number_from 0 f
+  pub stop_large : largest < n * 10 + (b - 48) → None ≡ number_from 0 f
   unfolding value_from
   stop_large l =
       let v : n * 10 + (b - 48) ≤ value_from n (drop i f) = rw (drop-cons f i 0 h, ← e) (value_grows (n * 10 + (b - 48)) (drop (suc i) f)) in
@@ -45,7 +45,7 @@ module _ (f : List ℕ) (n i b : ℕ) (h : i < length f) (e : b ≡ get_or f i 0
   unfolding number_from all_digits value_from
   one_more_lem l m = so_far ∙ rw (add-one, drop-cons f i 0 h, ← e, le-leb 48 b l, le-leb b 57 m)
 
-pub all_read : (f : List ℕ) (n i : ℕ) → length f ≤ i → n ≤ largest → number_from 0 f ≡ number_from n (drop i f) → some n ≡ number_from 0 f
+pub all_read : (f : List ℕ) (n i : ℕ) → length f ≤ i → n ≤ largest → number_from 0 f ≡ number_from n (drop i f) → Some n ≡ number_from 0 f
 unfolding number_from all_digits value_from
 all_read f n i h l so_far = sym (so_far ∙ rw (drop_of_length-le f h, le-leb n largest l))
 
@@ -55,16 +55,16 @@ plainly : (f : List ℕ) → no_leading_zero f ≡ true → number_from 0 f ≡ 
 unfolding number_from number_of
 plainly f e = rw e
 
-never : (f : List ℕ) → no_leading_zero f ≡ false → none ≡ number_of f
+never : (f : List ℕ) → no_leading_zero f ≡ false → None ≡ number_of f
 unfolding number_of
 never f e = rw e
 
-pub no_digit : (f : List ℕ) → length f ≡ 0 → none ≡ number_of f
+pub no_digit : (f : List ℕ) → length f ≡ 0 → None ≡ number_of f
 unfolding no_leading_zero
 no_digit [] h = never [] refl
 no_digit (c ∷ cs) h = absurd (omega arith)
 
-pub leading_zero : (f : List ℕ) → (length f ≡ 1 → ⊥) → get_or f 0 0 ≡ 48 → none ≡ number_of f
+pub leading_zero : (f : List ℕ) → (length f ≡ 1 → ⊥) → get_or f 0 0 ≡ 48 → None ≡ number_of f
 unfolding no_leading_zero
 leading_zero [] h e = never [] refl
 leading_zero (c ∷ []) h e = absurd (h refl)

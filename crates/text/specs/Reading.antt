@@ -1,6 +1,5 @@
 -- What the readers answer, as the rules see it.
-use Rattle.std.specs.Prelude.{ℕ, ◌+◌, ◌-◌, ◌≤◌, ◌<◌, ◌≡◌, true, false, cond, ◌&&◌, List, [], ◌∷◌, leb, length, take, drop}
-use Rattle.std.proofs.Math.Option.{Option, none, some}
+use Rattle.std.specs.Prelude.{ℕ, ◌+◌, ◌-◌, ◌≤◌, ◌<◌, ◌≡◌, true, false, cond, ◌&&◌, List, [], ◌∷◌, leb, length, take, drop, Option, None, Some}
 use Rattle.rules.specs.Sizes.{largest}
 use Rattle.rules.specs.Text.{space, before, fields, Line, lines, all_digits, value_from, number_of}
 use Rattle.text.specs.declared.Number.{Number}
@@ -23,18 +22,18 @@ letter_of (c ∷ d ∷ cs) = 0
 
 -- the number that an answer tells
 abbrev pub told : Number → Option ℕ
-told (Is n) = some n
-told Not = none
+told (Is n) = Some n
+told Not = None
 
 -- the number that digits say, behind those that say n
 unfoldable pub number_from : ℕ → List ℕ → Option ℕ
-number_from n f = cond (all_digits f && leb (value_from n f) largest) (some (value_from n f)) none
+number_from n f = cond (all_digits f && leb (value_from n f) largest) (Some (value_from n f)) None
 
 -- the number that was read
 abbrev pub number_read : Reading → Option ℕ
-number_read (Last n) = some n
-number_read (Then n next) = some n
-number_read Other = none
+number_read (Last n) = Some n
+number_read (Then n next) = Some n
+number_read Other = None
 
 -- the fields from a place on: the one that was read, and those behind it
 abbrev pub Behind : List ℕ → ℕ → Reading → Type 0

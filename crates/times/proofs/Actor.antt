@@ -1,10 +1,10 @@
 -- What the actor does, put together from its parts.
+use Rattle.std.specs.Prelude.{None, Some}
 use Prim.Native.Nat.{ℕ, zero, suc, ◌+◌, ◌*◌, ◌≤◌, ◌<◌}
 use native.Mathlib.Omega.{arith}
 use mathlib.Core.Path.{◌≡◌, sym}
 use mathlib.Core.Bool.{Bool, true, false, ◌&&◌}
 use mathlib.Core.List.{List, [], ◌∷◌, ◌++◌}
-use mathlib.Core.Option.{none, some}
 use borrow.Author.Tests.{lt-ltb, le-ltb, eq-eqb, ne_eqb}
 use lib.Dec.{leb, ltb}
 use lib.ListN.{get_or, set, drop, get_or-eq_default}
@@ -123,14 +123,14 @@ pub tick_some : (f : Bool) (n own : ℕ) → f ≡ true → n ≡ own → leb la
 tick_some f n own e h = rw (e, h)
 
 module _ (b : Batches) (clocks : List ℕ) (t : TaskId) (n : ℕ) (f : Bool) (k : ℕ) (sizes rows last makers : List ℕ) (p : Bool) (no_room : p ≡ (ltb 0 n && full (stands_in b sizes rows))) where
-  pub is_nine : p ≡ true → some 9 ≡ refusal_kept t (record { stock = k; back = n; ticks = f }) (kept_of b sizes rows last makers clocks)
+  pub is_nine : p ≡ true → Some 9 ≡ refusal_kept t (record { stock = k; back = n; ticks = f }) (kept_of b sizes rows last makers clocks)
   unfolding refusal_kept
   is_nine e = rw (← no_room, e)
 
-  pub is_eleven : (q : Bool) → q ≡ (f && leb largest (get_or (clock_in max_tasks clocks t.0) t.0 0)) → p ≡ false → q ≡ true → some 11 ≡ refusal_kept t (record { stock = k; back = n; ticks = f }) (kept_of b sizes rows last makers clocks)
+  pub is_eleven : (q : Bool) → q ≡ (f && leb largest (get_or (clock_in max_tasks clocks t.0) t.0 0)) → p ≡ false → q ≡ true → Some 11 ≡ refusal_kept t (record { stock = k; back = n; ticks = f }) (kept_of b sizes rows last makers clocks)
   unfolding refusal_kept
   is_eleven q h e d = rw (← no_room, e, ← h, d)
 
-  pub is_accepted : (q : Bool) → q ≡ (f && leb largest (get_or (clock_in max_tasks clocks t.0) t.0 0)) → p ≡ false → q ≡ false → none ≡ refusal_kept t (record { stock = k; back = n; ticks = f }) (kept_of b sizes rows last makers clocks)
+  pub is_accepted : (q : Bool) → q ≡ (f && leb largest (get_or (clock_in max_tasks clocks t.0) t.0 0)) → p ≡ false → q ≡ false → None ≡ refusal_kept t (record { stock = k; back = n; ticks = f }) (kept_of b sizes rows last makers clocks)
   unfolding refusal_kept
   is_accepted q h e d = rw (← no_room, e, ← h, d)

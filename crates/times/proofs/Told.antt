@@ -1,10 +1,11 @@
 -- What `times_step` counts on, of a step that is not refused: from the refusals of the times, and from what is decided without clocks.
+use Rattle.std.specs.Prelude.{None}
+use Rattle.std.proofs.lemmas.Option.{none-some}
 use Prim.Native.Nat.{ℕ, ◌≤◌, ◌<◌}
 use native.Mathlib.Omega.{arith}
 use mathlib.Core.Path.{◌≡◌, refl, sym, ap}
 use mathlib.Core.Bool.{Bool, true, false, cond, ◌&&◌, false≢true}
 use mathlib.Core.List.{List, [], ◌∷◌}
-use mathlib.Core.Option.{none, none-ne-some}
 use borrow.Author.Tests.{lt-ltb, leb-false}
 use lib.Dec.{ltb}
 use lib.ListN.{length, get_or}
@@ -39,16 +40,16 @@ pub refusal-kept : (a : Step) (p : Plain) (k : Known) (w : Kept) → a.actor.0 <
 unfolding refusal_kept times_refusal late
 refusal-kept a p k w h = rw (get_or-take (length p.tasks) w.clocks a.actor.0 (empty width) h)
 
-neither : (x y : Bool) → first (9 if x ∷ 11 if y ∷ []) ≡ none → (x ≡ false) × (y ≡ false)
-neither true y e = absurd (none-ne-some 9 (sym e))
-neither false true e = absurd (none-ne-some 11 (sym e))
+neither : (x y : Bool) → first (9 if x ∷ 11 if y ∷ []) ≡ None → (x ≡ false) × (y ≡ false)
+neither true y e = absurd (none-some 9 (sym e))
+neither false true e = absurd (none-some 11 (sym e))
 neither false false e = (refl, refl)
 
 second : (x y : Bool) → x ≡ true → (x && y) ≡ false → y ≡ false
 second true y e h = h
 second false y e h = absurd (false≢true e)
 
-module _ (t : TaskId) (k : Known) (w : Kept) (accepted : refusal_kept t k w ≡ none) where
+module _ (t : TaskId) (k : Known) (w : Kept) (accepted : refusal_kept t k w ≡ None) where
   pub has_room : 0 < k.back → full w.batches ≡ false
   unfolding refusal_kept
   has_room h = second (ltb 0 k.back) (full w.batches) (lt-ltb 0 k.back h) (neither (ltb 0 k.back && full w.batches) (k.ticks && last_tick t w) accepted).0
@@ -95,7 +96,7 @@ counted a p = counted_of a.actor a.act p
 
 -- so a step that is not refused may be taken
 pub able_accepted : (d : Timing) (t : TaskId) (o : Answer) (n : ℕ) (k : Known) (b : Batches) (sizes rows last makers clocks : List ℕ) → t.0 < max_tasks → n ≤ slot_count
-    → refusal_kept t k (kept_of b sizes rows last makers clocks) ≡ none → Counted d o n k.back k.ticks
+    → refusal_kept t k (kept_of b sizes rows last makers clocks) ≡ None → Counted d o n k.back k.ticks
     → Able d t o n k.back clocks (stands_in b sizes rows)
 able_accepted Makes t o n k b sizes rows last makers clocks l few r c = tt
 able_accepted Takes t o n k b sizes rows last makers clocks l few r c = (c.0, λ h. record { task = l; entry = has_tick t k (kept_of b sizes rows last makers clocks) r (c.1 h) })
@@ -137,7 +138,7 @@ pub ungranted : (a : Step) (p : Plain) → (effect a p).grants ≡ [] → Ungran
 ungranted a p e = ungranted_of a.actor a.act p e
 
 pub able_at_rest : (d : Timing) (t : TaskId) (o : Answer) (k : Known) (b : Batches) (sizes rows last makers clocks : List ℕ) → t.0 < max_tasks
-    → refusal_kept t k (kept_of b sizes rows last makers clocks) ≡ none → Ungranted d o k.ticks → AbleAtRest d t o clocks
+    → refusal_kept t k (kept_of b sizes rows last makers clocks) ≡ None → Ungranted d o k.ticks → AbleAtRest d t o clocks
 able_at_rest Makes t o k b sizes rows last makers clocks l r c = tt
 able_at_rest Takes t o k b sizes rows last makers clocks l r c = tt
 able_at_rest Tries t o k b sizes rows last makers clocks l r c = (record { task = l; entry = has_tick t k (kept_of b sizes rows last makers clocks) r c.0 }, c.1)

@@ -1,9 +1,9 @@
 -- From line to line: what a line came to printed, and what is left to print.
+use Rattle.std.specs.Prelude.{None, Some}
 use Prim.Native.Nat.{ℕ, ◌+◌, ◌≤◌}
 use mathlib.Core.Path.{◌≡◌, refl, ap, sym, ◌∙◌}
 use mathlib.Core.Bool.{Bool, true, false, cond}
 use mathlib.Core.List.{List, [], ◌∷◌, ◌++◌, append_assoc, append-nil}
-use mathlib.Core.Option.{none, some}
 use lib.ListN.{length, drop}
 use Rattle.rules.specs.State.{State}
 use Rattle.rules.specs.Text.{lines}
@@ -40,7 +40,7 @@ same_text r gs w v = refl
 came-text : (r : Walked) (gs : List ℕ) (w v : Words) → text_of (came r w gs) ≡ text_of (came r v gs)
 came-text r gs w v = go r.bad
   where
-    go : (b : Bool) → text_of (cond b none (some (outcome_of r.out w gs))) ≡ text_of (cond b none (some (outcome_of r.out v gs)))
+    go : (b : Bool) → text_of (cond b None (Some (outcome_of r.out w gs))) ≡ text_of (cond b None (Some (outcome_of r.out v gs)))
     go true = refl
     go false = same_text r.out gs w v
 

@@ -1,8 +1,7 @@
 // As `trying`, for the other public functions: the question about a point, the fresh states, and a script's run.
 #![tactic(auto)]
 
-ghost use Rattle.std.specs.Prelude.{◌≡◌};
-ghost use Rattle.std.proofs.Math.Option.{none, some};
+ghost use Rattle.std.specs.Prelude.{◌≡◌, None, Some};
 ghost use Rattle.rules.specs.Runs.{start};
 ghost use Rattle.fresh.specs.Starting.{Gives};
 ghost use Rattle.points.specs.Told.{told_by, answer_to};
@@ -27,13 +26,13 @@ pub fn new(
     starts: &[u32],
     maker: TaskId,
 ) -> StartedArrays
-    ensures { Gives result.started (words_in result.arrays) (start (record { fairness = fairness; stock = stock; tasks = count; clocks = starts.now; maker = some maker })) }
+    ensures { Gives result.started (words_in result.arrays) (start (record { fairness = fairness; stock = stock; tasks = count; clocks = starts.now; maker = Some maker })) }
 {
     arrays::new(fairness, stock, count, starts, maker)
 }
 
 pub fn const_new(fairness: Fairness, stock: u32, count: u32, starts: &[u32]) -> StartedArrays
-    ensures { Gives result.started (words_in result.arrays) (start (record { fairness = fairness; stock = stock; tasks = count; clocks = starts.now; maker = none })) }
+    ensures { Gives result.started (words_in result.arrays) (start (record { fairness = fairness; stock = stock; tasks = count; clocks = starts.now; maker = None })) }
 {
     arrays::const_new(fairness, stock, count, starts)
 }

@@ -1,10 +1,10 @@
 -- The first line: a start, accepted or refused, or none.
+use Rattle.std.specs.Prelude.{Option, None, Some}
 use Prim.Native.Nat.{ℕ, ◌≤◌}
 use native.Mathlib.Omega.{arith}
 use mathlib.Core.Path.{◌≡◌, refl, ap, sym, subst, ◌∙◌}
 use mathlib.Core.Bool.{Bool, true, false, cond}
 use mathlib.Core.List.{List, []}
-use mathlib.Core.Option.{Option, none, some}
 use lib.ListN.{length, drop}
 use Rattle.rules.specs.Fresh.{Start, fresh, refused_fresh, refuses12}
 use Rattle.rules.specs.Steps.{Outcome, quiet}
@@ -51,12 +51,12 @@ module _ (a c : Start) (e : start a ≡ start c) where
       rw (f, g) at p
 
 -- a line that says anything has bytes
-said-bytes : (f : List ℕ → Option Start) (l : Line) (a : Start) → said f l ≡ some a → 1 ≤ line_bytes l
+said-bytes : (f : List ℕ → Option Start) (l : Line) (a : Start) → said f l ≡ Some a → 1 ≤ line_bytes l
 said-bytes f l a e = go l.ended refl
   where
     go : (b : Bool) → l.ended ≡ b → 1 ≤ line_bytes l
     go true q = rw q (omega arith)
-    go false q = absurd (said-not none a (rw q at e) refl)
+    go false q = absurd (said-not None a (rw q at e) refl)
 
 -- a start that the first line says
 module _ (first : First) (starts : List ℕ) (next : ℕ) (r : Started) (w : Words) (g : Gives r w (start (start_read first starts))) where

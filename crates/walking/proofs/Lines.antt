@@ -1,10 +1,10 @@
 -- One line: the step that was read of it was taken, or it said none.
+use Rattle.std.specs.Prelude.{Option, None, Some}
 use Prim.Native.Nat.{ℕ}
 use native.Mathlib.Omega.{arith}
 use mathlib.Core.Path.{◌≡◌, refl, ap, sym, ◌∙◌}
 use mathlib.Core.Bool.{true, false}
 use mathlib.Core.List.{List}
-use mathlib.Core.Option.{Option, none, some}
 use Rattle.rules.specs.declared.Step.{Step}
 use Rattle.rules.specs.State.{State}
 use Rattle.rules.specs.Sound.{Sound}
@@ -24,8 +24,8 @@ use Rattle.walking.specs.Coming.{comes_to, Comes}
 
 -- what was read of the line is its step, named within a byte, which comes to the same
 same_step : (s : State) → Sound s → (o : Option Step) → comes_to (within o) s ≡ comes_to o s
-same_step s f none = refl
-same_step s f (some a) = ap some (step-within s f.tasks f.slots a)
+same_step s f None = refl
+same_step s f (Some a) = ap Some (step-within s f.tasks f.slots a)
 
 module _ {script : List ℕ} {at : ℕ} {l : ReadLine} (is : SaysAt script at l) {s : BatchSemaphore} {w : Words} {gs : List ℕ} (f : Fit s w gs) where
   comes-read : (p : Parsed) → l.said ≡ p → comes_to (parsed p) (view_of s w) ≡ comes_to (said step_of is.line) (view_of s w)
@@ -38,7 +38,7 @@ module _ {script : List ℕ} {at : ℕ} {l : ReadLine} (is : SaysAt script at l)
       record {
         line = is.line;
         shows = is.shows;
-        comes = ap some (carried s w gs a out v hs h) ∙ comes-read (Is a) e;
+        comes = ap Some (carried s w gs a out v hs h) ∙ comes-read (Is a) e;
         state = refl;
         fit = h.fit;
         few = h.few;

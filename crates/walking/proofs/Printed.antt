@@ -1,8 +1,8 @@
 -- What the rules print, line by line, is the text of what a line came to.
+use Rattle.std.specs.Prelude.{Option, None, Some}
 use Prim.Native.Nat.{ℕ}
 use mathlib.Core.Path.{◌≡◌, refl, ap, ◌∙◌}
 use mathlib.Core.List.{List, [], ◌++◌}
-use mathlib.Core.Option.{Option, none, some}
 use lib.ListN.{drop}
 use Rattle.rules.specs.declared.Step.{Step}
 use Rattle.rules.specs.State.{State}
@@ -18,8 +18,8 @@ use Rattle.walking.specs.declared.Walked.{Walked}
 use Rattle.walking.specs.Coming.{comes_to, after, text_of, came, Comes, FreshAt, RefusedAt}
 
 pub prints : (o : Option Step) (s : State) → printing o s ≡ record { text = text_of (comes_to o s); state = after (comes_to o s) s }
-prints none s = refl
-prints (some a) s = refl
+prints None s = refl
+prints (Some a) s = refl
 
 -- from a line on
 module _ {script : List ℕ} {at : ℕ} {s : State} {r : Walked} {w : Words} {gs : List ℕ} (c : Comes script at s r w gs) where

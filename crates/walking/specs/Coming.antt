@@ -1,6 +1,5 @@
 -- What the lines of a script come to, by the rules and as answered.
-use Rattle.std.specs.Prelude.{ℕ, ◌+◌, ◌≤◌, ◌<◌, ◌≡◌, true, false, cond, List, [], ◌∷◌, length, drop}
-use Rattle.std.proofs.Math.Option.{Option, none, some, map}
+use Rattle.std.specs.Prelude.{ℕ, ◌+◌, ◌≤◌, ◌<◌, ◌≡◌, true, false, cond, List, [], ◌∷◌, length, drop, Option, None, Some, option_map}
 use Rattle.rules.specs.declared.Step.{Step}
 use Rattle.rules.specs.Sizes.{slot_count}
 use Rattle.rules.specs.State.{State}
@@ -23,19 +22,19 @@ use Rattle.walking.specs.declared.Walked.{Walked}
 -- A LINE comes to the outcome of the step that it says, or to nothing: then it prints `bad`, and changes nothing.
 
 abbrev pub comes_to : Option Step → State → Option Outcome
-comes_to o s = map (λ (a : Step). step a s) o
+comes_to o s = option_map (λ (a : Step). step a s) o
 
 abbrev pub after : Option Outcome → State → State
-after none s = s
-after (some o) s = o.state
+after None s = s
+after (Some o) s = o.state
 
 abbrev pub text_of : Option Outcome → List ℕ
-text_of none = end_line (bytes "bad")
-text_of (some o) = outcome_text o
+text_of None = end_line (bytes "bad")
+text_of (Some o) = outcome_text o
 
 -- what was answered
 abbrev pub came : Walked → Words → List ℕ → Option Outcome
-came r w gs = cond r.bad none (some (outcome_of r.out w gs))
+came r w gs = cond r.bad None (Some (outcome_of r.out w gs))
 
 -- The line at a place of a script, on the state s: what was answered is what it comes to, and the state after it is such a state again.
 pub record Comes (script : List ℕ) (at : ℕ) (s : State) (r : Walked) (w : Words) (gs : List ℕ) : Type 0 where
@@ -72,7 +71,7 @@ pub record FreshAt (script : List ℕ) (r : Begun) (w : Words) : Type 0 where
   pub line : Line
   pub shows : lines script ≡ line ∷ lines (drop r.next script)
   pub start : Start
-  pub says : said start_of line ≡ some start
+  pub says : said start_of line ≡ Some start
   pub begins : BeginsFresh start r.state w
   pub bytes : r.next ≡ line_bytes line
   pub within : r.next ≤ length script
@@ -82,7 +81,7 @@ pub record RefusedAt (script : List ℕ) : Type 0 where
   pub behind : List Line
   pub shows : lines script ≡ line ∷ behind
   pub start : Start
-  pub says : said start_of line ≡ some start
+  pub says : said start_of line ≡ Some start
   pub refused : refuses12 start ≡ true
   pub some_bytes : 0 < length script
 

@@ -1,10 +1,10 @@
 -- A step put together: refused by the actor's grounds, by the act's, or carried out.
+use Rattle.std.specs.Prelude.{Option, None, Some}
 use Prim.Native.Nat.{ℕ}
 use native.Mathlib.Omega.{arith}
 use mathlib.Core.Path.{◌≡◌, refl, sym, ap, subst, ◌∙◌}
 use mathlib.Core.Bool.{Bool, true, false, cond}
 use mathlib.Core.List.{List}
-use mathlib.Core.Option.{Option, none, some}
 use Rattle.rules.specs.declared.TaskId.{TaskId}
 use Rattle.rules.specs.declared.Act.{Act}
 use Rattle.rules.specs.declared.Step.{Step}
@@ -37,22 +37,22 @@ use Rattle.doing.proofs.Allowing.{able}
 use Rattle.who.specs.Steps.{Ready, Refuses, DoesBy, Steps}
 
 -- ---- the first of all grounds
-by_none : (b c : Bool) (m n : ℕ) (o : Option ℕ) → cond b (some m) (cond c (some n) none) ≡ none → cond b (some m) (cond c (some n) o) ≡ o
+by_none : (b c : Bool) (m n : ℕ) (o : Option ℕ) → cond b (Some m) (cond c (Some n) None) ≡ None → cond b (Some m) (cond c (Some n) o) ≡ o
 by_none true c m n o e = let z : ◌≡◌ {A = ℕ} 0 1 = cc in absurd (omega arith)
 by_none false true m n o e = let z : ◌≡◌ {A = ℕ} 0 1 = cc in absurd (omega arith)
 by_none false false m n o e = refl
 
-by_some : (b c : Bool) (m n k : ℕ) (o : Option ℕ) → cond b (some m) (cond c (some n) none) ≡ some k → cond b (some m) (cond c (some n) o) ≡ some k
+by_some : (b c : Bool) (m n k : ℕ) (o : Option ℕ) → cond b (Some m) (cond c (Some n) None) ≡ Some k → cond b (Some m) (cond c (Some n) o) ≡ Some k
 by_some true c m n k o e = e
 by_some false true m n k o e = e
 by_some false false m n k o e = let z : ◌≡◌ {A = ℕ} 0 1 = cc in absurd (omega arith)
 
 module _ (t : TaskId) (a : Act) (s : Plain) where
-  past_actor : first (actor_grounds t s) ≡ none → W.refusal (record { actor = t; act = a }) s ≡ first (W.grounds a s)
+  past_actor : first (actor_grounds t s) ≡ None → W.refusal (record { actor = t; act = a }) s ≡ first (W.grounds a s)
   unfolding W.refusal
   past_actor e = by_none (W.no_such_task t s) (W.not_runnable t s) 1 2 (first (W.grounds a s)) e
 
-  at_actor : (n : ℕ) → first (actor_grounds t s) ≡ some n → W.refusal (record { actor = t; act = a }) s ≡ some n
+  at_actor : (n : ℕ) → first (actor_grounds t s) ≡ Some n → W.refusal (record { actor = t; act = a }) s ≡ Some n
   unfolding W.refusal
   at_actor n e = by_some (W.no_such_task t s) (W.not_runnable t s) 1 2 n (first (W.grounds a s)) e
 
@@ -69,7 +69,7 @@ module _ (h : Head) (ss ts gs : List ℕ) (d : Ready h ss ts) (r : Answered) (wh
         grants = refl;
       }
 
-  stays : (a : Step) → W.refusal a (plain_of h ss ts) ≡ some (number_of why) → Steps r ss ts gs a h ss ts gs
+  stays : (a : Step) → W.refusal a (plain_of h ss ts) ≡ Some (number_of why) → Steps r ss ts gs a h ss ts gs
   stays a e =
       record {
         does = subst (λ (o : Option ℕ). DoesBy o (W.effect a (plain_of h ss ts)) r ss ts gs h ss ts gs) (sym e) refuses;
@@ -81,18 +81,18 @@ module _ (h : Head) (ss ts gs : List ℕ) (d : Ready h ss ts) (r : Answered) (wh
   refused-actor a c k e = stays a (at_actor a.actor a.act (plain_of h ss ts) (number_of why) (sym (k ss).first ∙ ap given e))
 
   -- by the act's
-  pub refused_act : (t : TaskId) (a : Act) (p : Plan) → first (actor_grounds t (plain_of h ss ts)) ≡ none → ((tasks : List ℕ) → Planned p a (plain_of h ss tasks)) → p.check ≡ NotAccepted why
+  pub refused_act : (t : TaskId) (a : Act) (p : Plan) → first (actor_grounds t (plain_of h ss ts)) ≡ None → ((tasks : List ℕ) → Planned p a (plain_of h ss tasks)) → p.check ≡ NotAccepted why
       → Steps r ss ts gs (record { actor = t; act = a }) h ss ts gs
   refused_act t a p f k e =
       stays (record { actor = t; act = a }) (past_actor t a (plain_of h ss ts) f ∙ sym (k ts).check ∙ ap given e)
 
 -- ---- carried out
-pub actor-passes : (h : Head) (ss ts : List ℕ) (t : TaskId) (c : Check) → ((slots : List ℕ) → Says c (actor_grounds t (plain_of h slots ts))) → c ≡ Accepted → first (actor_grounds t (plain_of h ss ts)) ≡ none
+pub actor-passes : (h : Head) (ss ts : List ℕ) (t : TaskId) (c : Check) → ((slots : List ℕ) → Says c (actor_grounds t (plain_of h slots ts))) → c ≡ Accepted → first (actor_grounds t (plain_of h ss ts)) ≡ None
 actor-passes h ss ts t c k e = sym (k ss).first ∙ ap given e
 
-module _ (h : Head) (ss ts : List ℕ) (d : Ready h ss ts) (t : TaskId) (a : Act) (p : Plan) (f : first (actor_grounds t (plain_of h ss ts)) ≡ none)
+module _ (h : Head) (ss ts : List ℕ) (d : Ready h ss ts) (t : TaskId) (a : Act) (p : Plan) (f : first (actor_grounds t (plain_of h ss ts)) ≡ None)
     (k : (tasks : List ℕ) → Planned p a (plain_of h ss tasks)) (e : p.check ≡ Accepted) where
-  unrefused : W.refusal (record { actor = t; act = a }) (plain_of h ss ts) ≡ none
+  unrefused : W.refusal (record { actor = t; act = a }) (plain_of h ss ts) ≡ None
   unrefused = past_actor t a (plain_of h ss ts) f ∙ sym (k ts).check ∙ ap given e
 
   pub passes-slot : HasSlot p.choice

@@ -1,6 +1,5 @@
 -- What a step of the engine without clocks is said to do.
-use Rattle.std.specs.Prelude.{ℕ, ◌≡◌, List}
-use Rattle.std.proofs.Math.Option.{Option, none, some}
+use Rattle.std.specs.Prelude.{ℕ, ◌≡◌, List, Option, None, Some}
 use Rattle.rules.specs.declared.Step.{Step}
 use Rattle.rules.specs.Steps.Answer.{refused}
 use Rattle.splitting.specs.Who as W
@@ -26,8 +25,8 @@ pub record Refuses (r : Answered) (n : ℕ) (ss ts gs : List ℕ) (h : Head) (ss
 
 -- by the first refusal, if there is one, and else the rules' effect
 abbrev pub DoesBy : Option ℕ → W.Outcome → Answered → List ℕ → List ℕ → List ℕ → Head → List ℕ → List ℕ → List ℕ → Type 0
-DoesBy none o r ss ts gs h ss₀ ts₀ gs₀ = Answers r ss ts gs o
-DoesBy (some n) o r ss ts gs h ss₀ ts₀ gs₀ = Refuses r n ss ts gs h ss₀ ts₀ gs₀
+DoesBy None o r ss ts gs h ss₀ ts₀ gs₀ = Answers r ss ts gs o
+DoesBy (Some n) o r ss ts gs h ss₀ ts₀ gs₀ = Refuses r n ss ts gs h ss₀ ts₀ gs₀
 
 -- and what is left is ready for the next
 pub record Steps (r : Answered) (ss ts gs : List ℕ) (a : Step) (h : Head) (ss₀ ts₀ gs₀ : List ℕ) : Type 0 where

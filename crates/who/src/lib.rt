@@ -1,8 +1,7 @@
 // The engine without clocks: a step is decided, checked and carried out. 9 and 11 are no part of it.
 #![tactic(auto)]
 
-ghost use Rattle.std.specs.Prelude.{◌≡◌, ◌*◌, length};
-ghost use Rattle.std.proofs.Math.Option.{none};
+ghost use Rattle.std.specs.Prelude.{◌≡◌, ◌*◌, length, None};
 ghost use Rattle.rules.specs.Sizes.{slot_count};
 ghost use Rattle.rules.specs.Refusals.{first};
 ghost use Rattle.replies.specs.declared.Reply.TheVariants.{Refused};
@@ -66,7 +65,7 @@ fn carry_out(
     me: TaskId,
     act: Act,
 ) -> Answered
-    requires { (Ready h slots.old tasks.old) × (length grants.old ≡ slot_count * 3) × (first (actor_grounds me (plain_of h slots.old tasks.old)) ≡ none) }
+    requires { (Ready h slots.old tasks.old) × (length grants.old ≡ slot_count * 3) × (first (actor_grounds me (plain_of h slots.old tasks.old)) ≡ None) }
     ensures { Steps result slots.new tasks.new grants.new (record { actor = me; act = act }) h slots.old tasks.old grants.old }
 {
     let plan = planning::plan_act(h, slots, act);

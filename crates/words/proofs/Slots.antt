@@ -1,4 +1,5 @@
 -- Requests in their slots: one read, one written, the others as they were.
+use Rattle.std.specs.Prelude.{Option, None, option_map, unwrap_or}
 use Prim.Native.Nat.{ℕ, ◌*◌, ◌≤◌, ◌<◌}
 use native.Mathlib.Nat.{zero-add}
 use borrow.Author.Tests.{eqb-true, eqb-false}
@@ -6,8 +7,6 @@ use native.Mathlib.Omega.{arith}
 use mathlib.Core.Path.{◌≡◌, refl, sym, ap, ◌∙◌}
 use mathlib.Core.Bool.{Bool, true, false, not, ◌||◌}
 use mathlib.Core.List.{List, [], ◌∷◌}
-use mathlib.Core.Option
-use mathlib.Core.Option.{Option, none, map}
 use lib.Dec.{eqb}
 use lib.ListN.{length, get_or, set}
 use lib.Seq.{paste, set_out}
@@ -62,25 +61,25 @@ encoded-stands r =
     (or-true (not (marked (mark_word r.used))))
 
 -- ---- reading
-pub slot-there : (w : List ℕ) (k : ℕ) → k < slot_count → get_or (slots_of w) k none ≡ slot_in w k
+pub slot-there : (w : List ℕ) (k : ℕ) → k < slot_count → get_or (slots_of w) k None ≡ slot_in w k
 unfolding slots_of
-slot-there w k l = table_get (slot_in w) none slot_count k 0 l ∙ ap (slot_in w) (zero-add k)
+slot-there w k l = table_get (slot_in w) None slot_count k 0 l ∙ ap (slot_in w) (zero-add k)
 
-pub slot_past : (w : List ℕ) (k : ℕ) → slot_count ≤ k → get_or (slots_of w) k none ≡ none
+pub slot_past : (w : List ℕ) (k : ℕ) → slot_count ≤ k → get_or (slots_of w) k None ≡ None
 unfolding slots_of
-slot_past w k l = table_past (slot_in w) none slot_count k l
+slot_past w k l = table_past (slot_in w) None slot_count k l
 
 pub length-slots : (w : List ℕ) → length (slots_of w) ≡ slot_count
 unfolding slots_of
-length-slots w = table-length (slot_in w) none slot_count 0
+length-slots w = table-length (slot_in w) None slot_count 0
 
-pub stands_past : (w : List ℕ) (k : ℕ) (r : Request) → slot_count ≤ k → Stands r none → Stands r (get_or (slots_of w) k none)
+pub stands_past : (w : List ℕ) (k : ℕ) (r : Request) → slot_count ≤ k → Stands r None → Stands r (get_or (slots_of w) k None)
 stands_past w k r l s = rw (slot_past w k l) s
 
-pub stands-there : (w ws : List ℕ) (k : ℕ) (r q : Request) → k < slot_count → ws ≡ row request_words w k → r ≡ decoded ws → Stands q (seen r) → Stands q (get_or (slots_of w) k none)
+pub stands-there : (w ws : List ℕ) (k : ℕ) (r q : Request) → k < slot_count → ws ≡ row request_words w k → r ≡ decoded ws → Stands q (seen r) → Stands q (get_or (slots_of w) k None)
 stands-there w ws k r q l ew er s =
-    let e : seen r ≡ get_or (slots_of w) k none = ap (λ (z : Request). seen z) (er ∙ ap decoded ew) ∙ sym (slot-there w k l) in
-    record { used = s.used ∙ e; view = s.view ∙ ap (λ (o : Option RequestRule). Option.get_or o no_request) e }
+    let e : seen r ≡ get_or (slots_of w) k None = ap (λ (z : Request). seen z) (er ∙ ap decoded ew) ∙ sym (slot-there w k l) in
+    record { used = s.used ∙ e; view = s.view ∙ ap (λ (o : Option RequestRule). unwrap_or o no_request) e }
 
 -- ---- writing
 module _ (w : List ℕ) (i : ℕ) (r : Request) (inside : i < slot_count) (sized : length w ≡ slot_count * request_words) where
@@ -122,14 +121,14 @@ mark_there w _ ws x m r q l ew er c p =
       view =
           p.view
           ∙ ap (λ (o : Option RequestRule). set (slots_of w) x.0 o)
-          (changed_seen (marking m) r q c ∙ ap (λ (z : Request). map (marking m) (seen z)) (er ∙ ap decoded ew) ∙ ap (λ (o : Option RequestRule). map (marking m) o) (sym (slot-there w x.0 l)));
+          (changed_seen (marking m) r q c ∙ ap (λ (z : Request). option_map (marking m) (seen z)) (er ∙ ap decoded ew) ∙ ap (λ (o : Option RequestRule). option_map (marking m) o) (sym (slot-there w x.0 l)));
       stand = p.stand;
     }
 
 pub mark_past : (w : List ℕ) (x : Slot) (m : Marking) → slot_count ≤ x.0 → SlotsShow w w (altered x (marking m) (slots_of w))
-mark_past w x m l = put_past w x.0 (map (marking m) (get_or (slots_of w) x.0 none)) l
+mark_past w x m l = put_past w x.0 (option_map (marking m) (get_or (slots_of w) x.0 None)) l
 
-pub freed : (w after : List ℕ) (x : Slot) (r : Request) → Stands r none → SlotsShow after w (set (slots_of w) x.0 (seen r)) → SlotsShow after w (set (slots_of w) x.0 none)
+pub freed : (w after : List ℕ) (x : Slot) (r : Request) → Stands r None → SlotsShow after w (set (slots_of w) x.0 (seen r)) → SlotsShow after w (set (slots_of w) x.0 None)
 freed w _ x r s p = record { view = p.view ∙ ap (λ (o : Option RequestRule). set (slots_of w) x.0 o) s.used; stand = p.stand }
 
 -- the words that were made one by one

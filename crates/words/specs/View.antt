@@ -1,6 +1,5 @@
 -- What lent words stand for: requests in their slots, tasks, grants. And which words stand for something.
-use Rattle.std.specs.Prelude.{ℕ, zero, suc, ◌+◌, ◌*◌, ◌<◌, ◌≡◌, Bool, true, false, not, cond, ◌&&◌, ◌||◌, List, [], ◌∷◌, eqb, leb, ltb, get_or, set}
-use Rattle.std.proofs.Math.Option.{Option, none, map}
+use Rattle.std.specs.Prelude.{ℕ, zero, suc, ◌+◌, ◌*◌, ◌<◌, ◌≡◌, Bool, true, false, not, cond, ◌&&◌, ◌||◌, List, [], ◌∷◌, eqb, leb, ltb, get_or, set, Option, None, option_map}
 use Rattle.rules.specs.declared.Slot.{Slot}
 use Rattle.rules.specs.declared.Grant.{Grant}
 use Rattle.rules.specs.declared.Taker.{Taker}
@@ -96,7 +95,7 @@ slots_of w = table (slot_in w) 0 slot_count
 
 -- one request changed, the others as they were; where the slot is free, nothing
 abbrev pub altered : Slot → (RequestRule → RequestRule) → List (Option RequestRule) → List (Option RequestRule)
-altered x f l = set l x.0 (map f (get_or l x.0 none))
+altered x f l = set l x.0 (option_map f (get_or l x.0 None))
 
 -- the words of a slot: in use or not, and in use each of them one that some case has
 unfoldable pub row_stands : List ℕ → Bool

@@ -1,8 +1,7 @@
 // The records of slots, tasks and grants in words that the caller lends: each is read whole, by value, and written whole.
 #![tactic(auto)]
 
-ghost use Rattle.std.specs.Prelude.{◌≡◌, [], ◌∷◌, ◌++◌, ◌*◌, ◌+◌, ◌≤◌, ◌<◌, length, get_or, set};
-ghost use Rattle.std.proofs.Math.Option.{none};
+ghost use Rattle.std.specs.Prelude.{◌≡◌, [], ◌∷◌, ◌++◌, ◌*◌, ◌+◌, ◌≤◌, ◌<◌, length, get_or, set, None};
 ghost use Rattle.std.proofs.Math.Seq.{paste};
 ghost use Rattle.rules.specs.declared.Taker.TheVariants.{BySlot, ByTry};
 ghost use Rattle.rules.specs.Sizes.{slot_count, max_tasks};
@@ -149,7 +148,7 @@ fn words_of(r: Request) -> [u32; 10]
 // The request in a slot; past the slots, and in a free one, none.
 pub fn request_at(slots: &[u32], x: Slot) -> Request
     requires { length slots.now ≡ slot_count * request_words }
-    ensures { Stands result (get_or (slots_of slots.now) x.0 none) }
+    ensures { Stands result (get_or (slots_of slots.now) x.0 None) }
 {
     let i = x.0 as usize;
     if 32 <= i {
@@ -190,7 +189,7 @@ pub fn mark(slots: &mut [u32], x: Slot, m: Marking)
 // The slot is free.
 pub fn free(slots: &mut [u32], x: Slot)
     requires { length slots.old ≡ slot_count * request_words }
-    ensures { SlotsShow slots.new slots.old (set (slots_of slots.old) x.0 none) }
+    ensures { SlotsShow slots.new slots.old (set (slots_of slots.old) x.0 None) }
 {
     let i = x.0 as usize;
     let r = Request::none();
