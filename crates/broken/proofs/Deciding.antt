@@ -3,10 +3,10 @@ use Rattle.std.specs.Prelude.{Option, None, Some, is_some}
 use Prim.Native.Nat.{ℕ, zero, suc, ◌≤◌, ◌<◌}
 use native.Mathlib.Omega.{arith}
 use mathlib.Core.Path.{◌≡◌, refl, sym, ap, ◌∙◌}
-use mathlib.Core.Bool.{Bool, true, false, cond, not, ◌&&◌, ◌||◌}
+use mathlib.Core.Bool.{Bool, true, false, cond, not, ◌||◌}
 use mathlib.Core.List.{List}
-use borrow.Author.Tests.{lt-ltb, le-ltb, le-leb, lt-leb, not-true, not-false}
-use lib.Dec.{leb, ltb, eqb}
+use borrow.Author.Tests.{le-leb, lt-leb}
+use lib.Dec.{eqb}
 use lib.ListN.{length, get_or, replicate}
 use Rattle.rules.specs.Sizes.{slot_count}
 use Rattle.rules.specs.Broken.{any_of, reserved_slots}
@@ -36,34 +36,19 @@ slots_judged n fair w v seen r l h m e =
     ∙ sym (ap (λ (k : ℕ). not (eqb (sum_from (weights n fair seen w) slot_count 0) k)) q)
     ∙ weighed n fair w (waiters_of v) seen m (omega arith)
 
--- ---- closed
-module _ (closed reserved : Bool) (n : ℕ) where
-  pub is_open : not closed ≡ true → false ≡ closed && (ltb 0 n || reserved)
-  is_open e = rw (not-true closed e)
-
-  pub closed-queue : not closed ≡ false → 0 < n → true ≡ closed && (ltb 0 n || reserved)
-  closed-queue e h = rw (not-false closed e, lt-ltb 0 n h)
-
-  pub closed_else : not closed ≡ false → n ≤ 0 → reserved ≡ closed && (ltb 0 n || reserved)
-  closed_else e h = rw (not-false closed e, le-ltb 0 n h)
-
 -- ---- the reserved request
 abbrev unable : ℕ → Request → Bool
 unable n r = not r.used || r.queued || not r.ask.reserving || cannot_wait n (request_of r)
 
-pub reserve_else : (n : ℕ) (r : Request) → not r.used ≡ false → r.queued ≡ false → not r.ask.reserving ≡ false → r.holding ≡ false → r.completed ≡ false
-    → leb n r.task ≡ unable n r
-reserve_else n r u q p h d = rw (u, q, p, h, d)
-
 module _ (n : ℕ) (rs : List (Option RequestRule)) (v : Reservation) where
-  pub unreserved : not v.made ≡ true → false ≡ any_of (misreserved n rs) (reserved_slots (reservation_of v))
+  pub unreserved : v.made ≡ false → false ≡ any_of (misreserved n rs) (reserved_slots (reservation_of v))
   unfolding any_of
-  unreserved e = rw (not-true v.made e)
+  unreserved e = rw e
 
-  module _ (m : not v.made ≡ false) where
+  module _ (m : v.made ≡ true) where
     one : any_of (misreserved n rs) (reserved_slots (reservation_of v)) ≡ misreserved n rs v.slot || false
     unfolding any_of
-    one = rw (not-false v.made m)
+    one = rw m
 
     pub reserved-beyond : 32 ≤ v.slot.0 → true ≡ any_of (misreserved n rs) (reserved_slots (reservation_of v))
     reserved-beyond h = sym (one ∙ rw (le-leb 32 v.slot.0 h))

@@ -1,59 +1,15 @@
 -- The lengths of what is lent, one after another; and where none is another.
 use Prim.Native.Nat.{ℕ, ◌*◌}
 use mathlib.Core.Path.{◌≡◌}
-use mathlib.Core.Bool.{Bool, true, false, not, ◌||◌}
+use mathlib.Core.Bool.{false}
 use mathlib.Core.List.{List}
-use borrow.Author.Tests.{eqb-true, eq-eqb, ne_eqb, not-false}
-use lib.Dec.{eqb}
+use borrow.Author.Tests.{eqb-true, eq-eqb, not-false}
 use lib.ListN.{length}
 use Rattle.rules.specs.Sizes.{max_tasks, slot_count, batch_count, width}
 use Rattle.rules.proofs.Bools.{neither, ◌nor◌, is_not-not}
 use Rattle.words.specs.View.{request_words, task_words}
 use Rattle.state.specs.View.{Words}
 use Rattle.broken.specs.Broken.{other_length, other_lengths}
-
-abbrev other : ℕ → ℕ → Bool
-other a n = not (eqb a n)
-
-differs : (a n : ℕ) → (a ≡ n → ⊥) → other a n ≡ true
-differs a n d = rw (ne_eqb a n d)
-
-same : (a n : ℕ) → a ≡ n → other a n ≡ false
-same a n e = rw (eq-eqb a n e)
-
-module _ (a b c d e f g h : ℕ) where
-  abbrev some : Bool
-  some = other a 320 || other b 32 || other c 64 || other d 1024 || other e 16 || other f 512 || other g 256 || other h 96
-
-  pub first-differs : (a ≡ 320 → ⊥) → true ≡ some
-  first-differs x = rw (differs a 320 x)
-
-  module _ (ea : a ≡ 320) where
-    pub second_differs : (b ≡ 32 → ⊥) → true ≡ some
-    second_differs x = rw (same a 320 ea, differs b 32 x)
-
-    module _ (eb : b ≡ 32) where
-      pub third_differs : (c ≡ 64 → ⊥) → true ≡ some
-      third_differs x = rw (same a 320 ea, same b 32 eb, differs c 64 x)
-
-      module _ (ec : c ≡ 64) where
-        pub fourth_differs : (d ≡ 1024 → ⊥) → true ≡ some
-        fourth_differs x = rw (same a 320 ea, same b 32 eb, same c 64 ec, differs d 1024 x)
-
-        module _ (ed : d ≡ 1024) where
-          pub fifth_differs : (e ≡ 16 → ⊥) → true ≡ some
-          fifth_differs x = rw (same a 320 ea, same b 32 eb, same c 64 ec, same d 1024 ed, differs e 16 x)
-
-          module _ (ee : e ≡ 16) where
-            pub sixth_differs : (f ≡ 512 → ⊥) → true ≡ some
-            sixth_differs x = rw (same a 320 ea, same b 32 eb, same c 64 ec, same d 1024 ed, same e 16 ee, differs f 512 x)
-
-            module _ (ef : f ≡ 512) where
-              pub seventh_differs : (g ≡ 256 → ⊥) → true ≡ some
-              seventh_differs x = rw (same a 320 ea, same b 32 eb, same c 64 ec, same d 1024 ed, same e 16 ee, same f 512 ef, differs g 256 x)
-
-              pub last_decides : g ≡ 256 → other h 96 ≡ some
-              last_decides x = rw (same a 320 ea, same b 32 eb, same c 64 ec, same d 1024 ed, same e 16 ee, same f 512 ef, same g 256 x)
 
 -- what is lent has its lengths
 pub record Lengths (w : Words) (gs : List ℕ) : Type 0 where

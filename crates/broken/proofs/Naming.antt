@@ -1,7 +1,6 @@
 -- Marking the slots that a queue names, one after another.
 use Prim.Native.Nat.{ℕ, ◌+◌, ◌<◌, ◌≤◌}
 use native.Mathlib.Numerals.{add-one}
-use native.Mathlib.Omega.{arith}
 use mathlib.Core.Path.{◌≡◌, refl, sym, ◌∙◌}
 use mathlib.Core.Bool.{Bool, true, false, ◌||◌}
 use mathlib.Core.List.{List, [], ◌∷◌}
@@ -9,6 +8,7 @@ use borrow.Author.Tests.{eqb-true, eqb-false}
 use lib.Dec.{eqb}
 use lib.ListN.{length, get_or, set, take}
 use lib.Seq.{take-suc, get_or-set_same, get_or-set_other}
+use Rattle.std.proofs.lemmas.List.{take_all}
 use Rattle.rules.specs.declared.Slot.{Slot}
 use Rattle.rules.specs.State.{same_slot}
 use Rattle.rules.specs.Broken.{any_of, member}
@@ -41,6 +41,6 @@ marks_more seen l i d h fits m k b =
         rw (f, get_or-set_same seen x.0 true false fits) (sym (or_right (member (record { 0 = x.0 }) (take i l)) true refl))
     go false e = get_or-set_other seen x.0 k true false (eqb-false k x.0 e) ∙ m k b ∙ sym (or-false (member (record { 0 = k }) (take i l)))
 
-pub marks_done : (seen : List Bool) (w : Waiters) (i : ℕ) → i ≤ w.len → w.len ≤ i → Marks seen (take i w.slots) → Marks seen (waiters_of w)
+pub marks_done : (seen : List Bool) (w : Waiters) (i : ℕ) → length (take w.len w.slots) ≤ i → Marks seen (take i (take w.len w.slots)) → Marks seen (waiters_of w)
 unfolding waiters_of
-marks_done seen w i a b m k l = let e : w.len ≡ i = omega arith in rw e (m k l)
+marks_done seen w i h m k l = let e = take_all i (take w.len w.slots) h in rw (← e) (m k l)

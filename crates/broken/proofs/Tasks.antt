@@ -1,12 +1,12 @@
 -- Words of tasks that stand for nothing: those of all tasks together show it.
-use Prim.Native.Nat.{ℕ, suc, ◌+◌, ◌*◌, ◌≤◌, ◌<◌, ◌^◌}
+use Prim.Native.Nat.{ℕ, suc, ◌+◌, ◌*◌, ◌≤◌, ◌^◌}
 use native.Mathlib.Nat.{zero-add}
 use native.Mathlib.Numerals.{add-one}
 use native.Mathlib.Omega.{arith}
-use mathlib.Core.Path.{◌≡◌, refl, sym, ◌∙◌}
+use mathlib.Core.Path.{◌≡◌, refl, ◌∙◌}
 use mathlib.Core.Bool.{Bool, true, false, not, ◌&&◌, ◌||◌}
 use mathlib.Core.List.{List, [], ◌∷◌}
-use borrow.Author.Tests.{ltb-false, lt-ltb, le-ltb, le-leb, leb-true, not-false}
+use borrow.Author.Tests.{ltb-false, le-ltb, le-leb, leb-true, not-false}
 use lib.Bits.{bit_or, or_lt, or_add_and, and_le_l, and_le_r}
 use lib.Dec.{ltb}
 use lib.ListN.{get_or}
@@ -73,14 +73,3 @@ module _ (w : List ℕ) where
       let m = get_or w (2 * t + 1) 0 in
       one_more_lem t
       ∙ rw (e, stray_words s m, or_past 2 3 refl states s, or_past 1 1 refl marks m) (regroup (ltb 3 states) (ltb 1 marks) (ltb 3 s) (ltb 1 m))
-
-  -- all of n tasks
-  module _ (n t states marks : ℕ) (e : stray_tasks t w ≡ ltb 3 states || ltb 1 marks) (l : t ≤ n) (h : n ≤ t) where
-    whole : stray_tasks n w ≡ ltb 3 states || ltb 1 marks
-    whole = let q : n ≡ t = omega arith in rw q e
-
-    pub stray_state : 3 < states → true ≡ stray_tasks n w
-    stray_state a = sym (whole ∙ rw (lt-ltb 3 states a))
-
-    pub stray_else : states ≤ 3 → ltb 1 marks ≡ stray_tasks n w
-    stray_else a = sym (whole ∙ rw (le-ltb 3 states a))

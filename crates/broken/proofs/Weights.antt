@@ -3,9 +3,10 @@ use Prim.Native.Nat.{ℕ, zero, suc, ◌+◌, ◌*◌, ◌-◌, ◌≤◌, ◌<�
 use native.Mathlib.Nat.{add-zero, zero-add, add_assoc}
 use native.Mathlib.Omega.{arith}
 use mathlib.Core.Path.{◌≡◌, refl, sym, ap, ◌∙◌}
-use mathlib.Core.Bool.{Bool, true, false, cond}
+use mathlib.Core.Bool.{Bool, true, false, cond, not}
 use mathlib.Core.List.{List}
-use borrow.Author.Tests.{eq-eqb, ne_eqb}
+use borrow.Author.Tests.{eqb-true, eq-eqb, ne_eqb, not-false}
+use lib.Dec.{eqb}
 use lib.ListN.{get_or}
 use Rattle.words.specs.View.{request_words}
 use Rattle.broken.specs.Weights.{words_at, request_wrong, heavy, weight_of, weights, sum_from, Weighs, heaviest}
@@ -92,14 +93,14 @@ pub none_more : (sum n b : ℕ) → n ≡ 0 → sum ≤ b → Weighs sum (sum + 
 none_more sum n b e l = record { weight = rw (e, add-zero sum); bounded = l }
 
 -- ---- four slots
-pub four_free : (w : List ℕ) (k : ℕ) → get_or w (k * 10) 0 ≡ 0 → get_or w (k * 10 + 10) 0 ≡ 0 → get_or w (k * 10 + 20) 0 ≡ 0 → get_or w (k * 10 + 30) 0 ≡ 0
+pub four_free : (w : List ℕ) (k : ℕ) → get_or w (k * 10) 0 ≡ 0 → get_or w (k * 10 + 10) 0 ≡ 0 → get_or w (k * 10 + 20) 0 ≡ 0 → not (eqb (get_or w (k * 10 + 30) 0) 0) ≡ false
     → (n : ℕ) (fair : Bool) (seen : List Bool) → sum_from (weights n fair seen w) 4 k ≡ 0
 unfolding sum_from
 four_free w k a b c d n fair seen =
     let e0 = z k (k * 10) a refl in
     let e1 = z (suc k) (k * 10 + 10) b (omega arith) in
     let e2 = z (suc (suc k)) (k * 10 + 20) c (omega arith) in
-    let e3 = z (suc (suc (suc k))) (k * 10 + 30) d (omega arith) in
+    let e3 = z (suc (suc (suc k))) (k * 10 + 30) (eqb-true _ 0 (not-false _ d)) (omega arith) in
     omega arith
   where
     z : (i m : ℕ) → get_or w m 0 ≡ 0 → i * request_words ≡ m → weights n fair seen w i ≡ 0

@@ -34,20 +34,12 @@ fn ask_is_wrong(slots: &[u32], b: usize, fair: bool) -> bool
     requires { b + request_words ≤ length slots.now }
     ensures { result ≡ ask_wrong fair (words_at slots.now b) }
 {
-    if 2 < slots[b + 3] {
-        return true;
-    }
-    let reserving = slots[b + 4];
-    if reserving == 0 {
-        return false;
-    }
-    if 1 < reserving {
-        return true;
-    }
-    if fair {
-        return true;
-    }
-    bad_reserving(slots[b + 2], slots[b + 1])
+    2 < slots[b + 3]
+        || match slots[b + 4] {
+            0 => false,
+            1 => fair || bad_reserving(slots[b + 2], slots[b + 1]),
+            _ => true,
+        }
 }
 
 // Named by the queue, and asking for nothing, not marked so, holding, completed, or of none of the tasks.
@@ -55,16 +47,10 @@ fn named_is_wrong(slots: &[u32], b: usize, tasks: u32) -> bool
     requires { b + request_words ≤ length slots.now }
     ensures { result ≡ named_wrong tasks (words_at slots.now b) }
 {
-    if slots[b + 1] == 0 {
-        return true;
-    }
-    if slots[b + 6] != 1 {
-        return true;
-    }
-    if slots[b + 7] | slots[b + 8] != 0 {
-        return true;
-    }
-    tasks <= slots[b + 5]
+    slots[b + 1] == 0
+        || slots[b + 6] != 1
+        || slots[b + 7] | slots[b + 8] != 0
+        || tasks <= slots[b + 5]
 }
 
 // Not named by the queue, and marked so; or a mark that stands for nothing.
@@ -72,13 +58,7 @@ fn other_is_wrong(slots: &[u32], b: usize) -> bool
     requires { b + request_words ≤ length slots.now }
     ensures { result ≡ other_wrong (words_at slots.now b) }
 {
-    if slots[b + 6] != 0 {
-        return true;
-    }
-    if 1 < slots[b + 7] {
-        return true;
-    }
-    1 < slots[b + 8]
+    slots[b + 6] != 0 || 1 < slots[b + 7] || 1 < slots[b + 8]
 }
 
 // A request in use that is so, by whether the queue names it.
@@ -86,16 +66,13 @@ fn request_is_wrong(slots: &[u32], b: usize, named: bool, tasks: u32, fair: bool
     requires { b + request_words ≤ length slots.now }
     ensures { result ≡ request_wrong tasks fair named (words_at slots.now b) }
 {
-    if ask_is_wrong(slots, b, fair) {
-        return true;
-    }
-    if 1 < slots[b + 9] {
-        return true;
-    }
-    if named {
-        return named_is_wrong(slots, b, tasks);
-    }
-    other_is_wrong(slots, b)
+    ask_is_wrong(slots, b, fair)
+        || 1 < slots[b + 9]
+        || if named {
+            named_is_wrong(slots, b, tasks)
+        } else {
+            other_is_wrong(slots, b)
+        }
 }
 
 // ---- what the slots weigh: together as much as the queue is long, exactly where nothing is wrong
@@ -125,38 +102,30 @@ fn any_used(slots: &[u32], k: usize) -> bool
     ensures { result ≡ false → (n : ℕ) (fair : Bool) (seen : List Bool) → sum_from (weights n fair seen slots.now) 4 k ≡ 0 }
 {
     let b = k * 10;
-    if slots[b] != 0 {
-        return true;
-    }
-    if slots[b + 10] != 0 {
-        return true;
-    }
-    if slots[b + 20] != 0 {
-        return true;
-    }
-    if slots[b + 30] != 0 {
-        return true;
-    }
-    false
+    slots[b] != 0 || slots[b + 10] != 0 || slots[b + 20] != 0 || slots[b + 30] != 0
 }
 
-fn four_weight(slots: &[u32], seen: &[bool], k: usize, tasks: u32, fair: bool) -> usize
-    requires { (k + 4 ≤ slot_count) × (length slots.now ≡ slot_count * request_words) × (slot_count ≤ length seen.now) }
+fn four_weight(slots: &[u32], seen: &[bool; 256], k: usize, tasks: u32, fair: bool) -> usize
+    requires { (k + 4 ≤ slot_count) × (length slots.now ≡ slot_count * request_words) }
     ensures { Weighs result (sum_from (weights tasks fair seen.now slots.now) 4 k) (4 * heaviest) }
 {
-    let mut sum: usize = 0;
-    let mut j: usize = 0;
-    while j < 4 {
-        let named = seen[k + j];
-        sum += slot_weight(slots, k + j, named, tasks, fair);
-        j += 1;
+    let mut sum = 0;
+    for j in 0..4 {
+        sum += slot_weight(slots, k + j, seen[k + j], tasks, fair);
     }
     sum
 }
 
 // The weight so far, and that of four slots more.
-fn more_weight(sum: usize, slots: &[u32], seen: &[bool], k: usize, tasks: u32, fair: bool) -> usize
-    requires { (sum ≤ k * heaviest) × (k + 4 ≤ slot_count) × (length slots.now ≡ slot_count * request_words) × (slot_count ≤ length seen.now) }
+fn more_weight(
+    sum: usize,
+    slots: &[u32],
+    seen: &[bool; 256],
+    k: usize,
+    tasks: u32,
+    fair: bool,
+) -> usize
+    requires { (sum ≤ k * heaviest) × (k + 4 ≤ slot_count) × (length slots.now ≡ slot_count * request_words) }
     ensures { Weighs result (sum + sum_from (weights tasks fair seen.now slots.now) 4 k) ((k + 4) * heaviest) }
 {
     if any_used(slots, k) {
@@ -165,32 +134,25 @@ fn more_weight(sum: usize, slots: &[u32], seen: &[bool], k: usize, tasks: u32, f
     sum
 }
 
-fn slots_weight(slots: &[u32], seen: &[bool], tasks: u32, fair: bool) -> usize
-    requires { (length slots.now ≡ slot_count * request_words) × (slot_count ≤ length seen.now) }
+fn slots_weight(slots: &[u32], seen: &[bool; 256], tasks: u32, fair: bool) -> usize
+    requires { length slots.now ≡ slot_count * request_words }
     ensures { result ≡ sum_from (weights tasks fair seen.now slots.now) slot_count 0 }
 {
-    let mut sum: usize = 0;
-    let mut i: usize = 0;
-    while i < 8 {
+    let mut sum = 0;
+    for i in 0..8 {
         sum = more_weight(sum, slots, seen, 4 * i, tasks, fair);
-        i += 1;
     }
     sum
 }
 
 // Each slot that the queue names is marked. Its number is a byte, so there is a mark for every number: one that names no slot is missing in the
 // weight.
-fn mark_named(seen: &mut [bool], waiters: Waiters)
-    requires { (waiters.len ≤ slot_count) × (length seen.old ≡ 256) × ((k : ℕ) → get_or seen.old k false ≡ false) }
+fn mark_named(seen: &mut [bool; 256], waiters: Waiters)
+    requires { (waiters.len ≤ slot_count) × ((k : ℕ) → get_or seen.old k false ≡ false) }
     ensures { Marks seen.new (waiters_of waiters) }
 {
-    let len = waiters.len as usize;
-    let mut i: usize = 0;
-    while i < len {
-        let x = waiters.slots[i];
-        let k = x.0 as usize;
-        seen[k] = true;
-        i += 1;
+    for x in &waiters.slots[..waiters.len as usize] {
+        seen[x.0 as usize] = true;
     }
 }
 
@@ -200,10 +162,9 @@ fn slots_are_broken(waiters: Waiters, slots: &[u32], tasks: u32, fair: bool) -> 
     requires { (waiters.len ≤ slot_count) × (length slots.now ≡ slot_count * request_words) }
     ensures { result ≡ broken_slots tasks fair (waiters_of waiters) slots.now }
 {
-    let len = waiters.len as usize;
     let mut seen = [false; 256];
     mark_named(&mut seen, waiters);
-    slots_weight(slots, &seen, tasks, fair) != len
+    slots_weight(slots, &seen, tasks, fair) != waiters.len as usize
 }
 
 // A task's state or mark that stands for nothing: the words of all tasks together show it, since the largest that stand are 3 and 1.
@@ -211,69 +172,35 @@ fn tasks_are_broken(tasks: &[u32], count: u32) -> bool
     requires { (count ≤ max_tasks) × (length tasks.now ≡ max_tasks * task_words) }
     ensures { result ≡ stray_tasks count tasks.now }
 {
-    let len = count as usize;
-    let mut states: u32 = 0;
-    let mut marks: u32 = 0;
-    let mut t: usize = 0;
-    while t < len {
-        states = states | tasks[2 * t];
-        marks = marks | tasks[2 * t + 1];
-        t += 1;
+    let mut states = 0;
+    let mut marks = 0;
+    for t in 0..count as usize {
+        states |= tasks[2 * t];
+        marks |= tasks[2 * t + 1];
     }
-    if 3 < states {
-        return true;
-    }
-    1 < marks
+    3 < states || 1 < marks
 }
 
 // A request that is free, queued, not reserving, or cannot wait: that holds, has completed, or names none of the tasks.
 fn cannot_reserve(r: Request, tasks: u32) -> bool
     ensures { result ≡ (not r.used || r.queued || not r.ask.reserving || cannot_wait tasks (request_of r)) }
 {
-    if !r.used {
-        return true;
-    }
-    if r.queued {
-        return true;
-    }
-    if !r.ask.reserving {
-        return true;
-    }
-    if r.holding {
-        return true;
-    }
-    if r.completed {
-        return true;
-    }
-    tasks <= r.task
+    !r.used || r.queued || !r.ask.reserving || r.holding || r.completed || tasks <= r.task
 }
 
 fn reservation_is_broken(reservation: Reservation, slots: &[u32], tasks: u32) -> bool
     requires { length slots.now ≡ slot_count * request_words }
     ensures { result ≡ any_of (misreserved tasks (slots_of slots.now)) (reserved_slots (reservation_of reservation)) }
 {
-    if !reservation.made {
-        return false;
-    }
     let x = reservation.slot;
-    if 32 <= x.0 {
-        return true;
-    }
-    let r = words::request_at(slots, x);
-    cannot_reserve(r, tasks)
+    reservation.made && (32 <= x.0 || cannot_reserve(words::request_at(slots, x), tasks))
 }
 
 // Closed with a queue or a reservation.
 fn closed_is_broken(closed: bool, waiting: u32, reserved: bool) -> bool
     ensures { result ≡ (closed && (ltb 0 waiting || reserved)) }
 {
-    if !closed {
-        return false;
-    }
-    if 0 < waiting {
-        return true;
-    }
-    reserved
+    closed && (0 < waiting || reserved)
 }
 
 // All but the lengths and the batches.
@@ -281,25 +208,12 @@ fn who_is_broken(h: Head, slots: &[u32], tasks: &[u32]) -> bool
     requires { (length slots.now ≡ slot_count * request_words) × (length tasks.now ≡ max_tasks * task_words) }
     ensures { result ≡ broken_who h slots.now tasks.now }
 {
-    let waiters = h.waiters;
-    let reservation = h.reservation;
-    if 16 < h.tasks {
-        return true;
-    }
-    if 32 < waiters.len {
-        return true;
-    }
-    if tasks_are_broken(tasks, h.tasks) {
-        return true;
-    }
-    let fair = h.strictly_fair();
-    if slots_are_broken(waiters, slots, h.tasks, fair) {
-        return true;
-    }
-    if reservation_is_broken(reservation, slots, h.tasks) {
-        return true;
-    }
-    closed_is_broken(h.closed, waiters.len, reservation.made)
+    16 < h.tasks
+        || 32 < h.waiters.len
+        || tasks_are_broken(tasks, h.tasks)
+        || slots_are_broken(h.waiters, slots, h.tasks, h.strictly_fair())
+        || reservation_is_broken(h.reservation, slots, h.tasks)
+        || closed_is_broken(h.closed, h.waiters.len, h.reservation.made)
 }
 
 // A lent array of another length.
@@ -315,28 +229,14 @@ fn lengths_differ(
 ) -> bool
     ensures { result ≡ other_lengths (words slots.now tasks.now sizes.now rows.now last.now makers.now clocks.now) grants.now }
 {
-    if slots.len() != 320 {
-        return true;
-    }
-    if tasks.len() != 32 {
-        return true;
-    }
-    if sizes.len() != 64 {
-        return true;
-    }
-    if rows.len() != 1024 {
-        return true;
-    }
-    if last.len() != 16 {
-        return true;
-    }
-    if makers.len() != 512 {
-        return true;
-    }
-    if clocks.len() != 256 {
-        return true;
-    }
-    grants.len() != 96
+    slots.len() != 320
+        || tasks.len() != 32
+        || sizes.len() != 64
+        || rows.len() != 1024
+        || last.len() != 16
+        || makers.len() != 512
+        || clocks.len() != 256
+        || grants.len() != 96
 }
 
 // Whether what is handed in is broken.
@@ -353,13 +253,7 @@ pub fn is_broken(
 ) -> bool
     ensures { Judged s (words slots.now tasks.now sizes.now rows.now last.now makers.now clocks.now) grants.now result }
 {
-    if lengths_differ(slots, tasks, sizes, rows, last, makers, clocks, grants) {
-        return true;
-    }
-    let head = s.head;
-    let batches = s.batches;
-    if batches.is_broken(sizes, head.stock) {
-        return true;
-    }
-    who_is_broken(head, slots, tasks)
+    lengths_differ(slots, tasks, sizes, rows, last, makers, clocks, grants)
+        || s.batches.is_broken(sizes, s.head.stock)
+        || who_is_broken(s.head, slots, tasks)
 }

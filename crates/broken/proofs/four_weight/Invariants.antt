@@ -5,7 +5,4 @@ use Rattle.broken.proofs.four_weight.Given as goal
 
 abbrev pub invariant-loop-j : goal.invariant-loop-j
 invariant-loop-j l =
-    (l.j ≤ 4) × (l.sum ≤ l.j * heaviest) × (l.sum + sum_from (weights l.tasks l.fair l.seen l.slots) (4 - l.j) (l.k + l.j) ≡ sum_from (weights l.tasks l.fair l.seen l.slots) 4 l.k)
-
-abbrev pub decreases-loop-j : goal.decreases-loop-j
-decreases-loop-j l = 4 - l.j
+    (l.sum ≤ l.j * heaviest) × (l.sum + sum_from (weights l.tasks l.fair l.seen l.slots) (4 - l.j) (l.k + l.j) ≡ sum_from (weights l.tasks l.fair l.seen l.slots) 4 l.k)

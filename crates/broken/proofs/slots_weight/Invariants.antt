@@ -6,7 +6,4 @@ use Rattle.broken.proofs.slots_weight.Given as goal
 
 abbrev pub invariant-loop-i : goal.invariant-loop-i
 invariant-loop-i l =
-    (l.i ≤ 8) × (l.sum ≤ 4 * l.i * heaviest) × (l.sum + sum_from (weights l.tasks l.fair l.seen l.slots) (32 - 4 * l.i) (4 * l.i) ≡ sum_from (weights l.tasks l.fair l.seen l.slots) slot_count 0)
-
-abbrev pub decreases-loop-i : goal.decreases-loop-i
-decreases-loop-i l = 8 - l.i
+    (l.sum ≤ 4 * l.i * heaviest) × (l.sum + sum_from (weights l.tasks l.fair l.seen l.slots) (32 - 4 * l.i) (4 * l.i) ≡ sum_from (weights l.tasks l.fair l.seen l.slots) slot_count 0)

@@ -1,4 +1,3 @@
-use Prim.Native.Nat.{◌-◌, ◌≤◌}
 use mathlib.Core.Path.{◌≡◌}
 use mathlib.Core.Bool.{◌||◌}
 use lib.Dec.{ltb}
@@ -6,7 +5,4 @@ use Rattle.broken.specs.Broken.{stray_tasks}
 use Rattle.broken.proofs.tasks_are_broken.Given as goal
 
 abbrev pub invariant-loop-t : goal.invariant-loop-t
-invariant-loop-t l = (l.t ≤ l.len) × (stray_tasks l.t l.tasks ≡ ltb 3 l.states || ltb 1 l.marks)
-
-abbrev pub decreases-loop-t : goal.decreases-loop-t
-decreases-loop-t l = l.len - l.t
+invariant-loop-t l = stray_tasks l.t l.tasks ≡ ltb 3 l.states || ltb 1 l.marks
