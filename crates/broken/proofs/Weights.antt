@@ -38,11 +38,9 @@ module _ (n : ℕ) (fair named : Bool) (w : List ℕ) (b : ℕ) where
     pub wrong_weighs : r ≡ true → Weighs 33 all heaviest
     wrong_weighs t = record { weight = sym (used_weighs ∙ rw t); bounded = omega arith }
 
-    pub named_weighs : r ≡ false → named ≡ true → Weighs 1 all heaviest
-    named_weighs f t = record { weight = sym (used_weighs ∙ rw (f, t)); bounded = omega arith }
-
-    pub other_weighs : r ≡ false → named ≡ false → Weighs 0 all heaviest
-    other_weighs f t = record { weight = sym (used_weighs ∙ rw (f, t)); bounded = omega arith }
+    -- one where the queue names it, and else nothing
+    pub right_weighs : (m : ℕ) → m ≡ cond named 1 0 → m ≤ 1 → r ≡ false → Weighs m all heaviest
+    right_weighs m h l f = record { weight = h ∙ sym (used_weighs ∙ rw f); bounded = omega arith }
 
 -- ---- sums
 module _ (f : ℕ → ℕ) where

@@ -83,17 +83,11 @@ fn slot_weight(slots: &[u32], k: usize, named: bool, tasks: u32, fair: bool) -> 
     ensures { Weighs result (weight_of tasks fair named (words_at slots.now (k * request_words))) heaviest }
 {
     let b = k * 10;
-    let used = slots[b] as usize;
-    if used != 1 {
-        return 33 * used;
+    match slots[b] {
+        1 if request_is_wrong(slots, b, named, tasks, fair) => 33,
+        1 => named as usize,
+        used => 33 * used as usize,
     }
-    if request_is_wrong(slots, b, named, tasks, fair) {
-        return 33;
-    }
-    if named {
-        return 1;
-    }
-    0
 }
 
 // Whether one of four slots is in use: most are free, and four free ones weigh nothing.

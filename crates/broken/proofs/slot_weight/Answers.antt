@@ -1,25 +1,12 @@
-use Prim.Native.Nat.{◌*◌}
-use native.Mathlib.Omega.{arith}
-use Rattle.broken.proofs.Weights.{word_weighs, wrong_weighs, named_weighs, other_weighs}
+use Rattle.broken.proofs.Weights.{word_weighs, wrong_weighs, right_weighs}
 use borrow.Author.Rules.{rules}
 use Rattle.broken.proofs.slot_weight.Goals as goal
 
-pub overflow_cast-used : goal.overflow_cast-used
-overflow_cast-used c = omega (arith, c.shared_slice_known-2-1.given (c.args.k * 10))
+pub returns-in-1 : goal.returns-in-1
+returns-in-1 c = search (wrong_weighs, rules)
 
-pub overflow_mul-result : goal.overflow_mul-result
-overflow_mul-result c = omega (arith, c.shared_slice_known-2-1.given (c.args.k * 10))
+pub returns-in-1-2 : goal.returns-in-1-2
+returns-in-1-2 c = search (right_weighs, rules)
 
-pub returns-then-used-ne1 : goal.returns-then-used-ne1
-returns-then-used-ne1 c =
-    let h = c.shared_slice_known-2-1.given (c.args.k * 10) in
-    search (word_weighs, rules)
-
-pub returns-then-request_is_wrong : goal.returns-then-request_is_wrong
-returns-then-request_is_wrong c = search (wrong_weighs, rules)
-
-pub returns-then-named : goal.returns-then-named
-returns-then-named c = search (named_weighs, rules)
-
-pub returns : goal.returns
-returns c = search (other_weighs, rules)
+pub returns-in_default : goal.returns-in_default
+returns-in_default c = search (word_weighs, rules)
