@@ -2,50 +2,62 @@
 #![tactic(auto)]
 
 ghost use Rattle.std.specs.Prelude.{◌≡◌};
+ghost use Rattle.std.specs.Fn.{FnOnceReturnsAtMut};
 ghost use Rattle.splitting.specs.Plain.{blocked, unblocked, wakened};
 ghost use Rattle.records.specs.View.{task_seen};
 
 use records::Task;
 
+// A change of the record where it stands.
+fn alter<F: FnOnce(Task) -> Task>(t: &mut Task, change: F)
+    requires { F.pre change t.old }
+    ensures { F.post change t.old t.new }
+{
+    *t = change(*t);
+}
+
 pub fn block(t: &mut Task)
     ensures { task_seen t.new ≡ blocked (task_seen t.old) }
 {
-    *t = (*t).block();
+    alter(t, |u| u.block());
 }
 
 pub fn unblock(t: &mut Task)
     ensures { task_seen t.new ≡ unblocked (task_seen t.old) }
 {
-    *t = (*t).unblock();
+    alter(t, |u| u.unblock());
 }
 
 pub fn wake(t: &mut Task)
     ensures { task_seen t.new ≡ wakened (task_seen t.old) }
 {
-    *t = (*t).wake();
+    alter(t, |u| u.wake());
 }
 
 // By value again, for callers that hold the record: a copy of it is lent.
+fn altered<F: FnOnce(&mut Task)>(t: Task, change: F) -> Task
+    requires { F.IsAlwaysCallable change }
+    ensures { FnOnceReturnsAtMut F.FnOnce change t tt result }
+{
+    let mut u = t;
+    change(&mut u);
+    u
+}
+
 pub fn halted(t: Task) -> Task
     ensures { task_seen result ≡ blocked (task_seen t) }
 {
-    let mut u = t;
-    block(&mut u);
-    u
+    altered(t, block)
 }
 
 pub fn freed(t: Task) -> Task
     ensures { task_seen result ≡ unblocked (task_seen t) }
 {
-    let mut u = t;
-    unblock(&mut u);
-    u
+    altered(t, unblock)
 }
 
 pub fn woke(t: Task) -> Task
     ensures { task_seen result ≡ wakened (task_seen t) }
 {
-    let mut u = t;
-    wake(&mut u);
-    u
+    altered(t, wake)
 }
