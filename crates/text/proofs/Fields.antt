@@ -6,23 +6,23 @@ use mathlib.Core.List.{List}
 use lib.ListN.{length, drop}
 use Rattle.rules.specs.Text.{space, before, number_of}
 use Rattle.rules.proofs.Parts.{parts_onward, parts-ended}
-use Rattle.text.specs.declared.Number.{Number}
-use Rattle.text.specs.declared.Number.TheVariants.{Is, Not}
-use Rattle.text.specs.declared.Reading.TheVariants.{Last, Then, Other}
-use Rattle.text.specs.Reading.{told, ReadAt}
+use Rattle.std.specs.Prelude.{Option, None, Some}
+use Rattle.text.specs.declared.Reading.TheVariants.{Last, Then}
+use Rattle.text.specs.Reading.{ReadAt}
 
-module _ (line f : List ℕ) (at : ℕ) (r : Number) (is : f ≡ before space (drop at line)) (says : told r ≡ number_of f) where
+module _ (line f : List ℕ) (at : ℕ) (is : f ≡ before space (drop at line)) where
   ends : at + length f ≡ at + length (before space (drop at line))
   ends = ap (λ (l : List ℕ). at + length l) is
 
-  said_here : (q : Number) → r ≡ q → number_of (before space (drop at line)) ≡ told q
-  said_here q e = ap number_of (sym is) ∙ sym says ∙ ap told e
+  said_here : (o : Option ℕ) → o ≡ number_of f → number_of (before space (drop at line)) ≡ o
+  said_here o says = ap number_of (sym is) ∙ sym says
 
-  pub read_other : r ≡ Not → ReadAt line at Other
-  read_other e = record { says = said_here Not e; behind = tt }
+  pub read_none : None ≡ number_of f → ReadAt line at None
+  read_none says = record { says = said_here None says; behind = tt }
 
-  pub read_then : (n : ℕ) → r ≡ Is n → at + length f < length line → ReadAt line at (Then n (at + length f + 1))
-  read_then n e l = record { says = said_here (Is n) e; behind = (parts_onward space line at (at + length f) ends l, omega arith) }
+  module _ (n : ℕ) (says : Some n ≡ number_of f) where
+    pub read_then : at + length f < length line → ReadAt line at (Some (Then n (at + length f + 1)))
+    read_then l = record { says = said_here (Some n) says; behind = (parts_onward space line at (at + length f) ends l, omega arith) }
 
-  pub read-last : (n : ℕ) → r ≡ Is n → length line ≤ at + length f → ReadAt line at (Last n)
-  read-last n e l = record { says = said_here (Is n) e; behind = parts-ended space line at (at + length f) ends l }
+    pub read-last : length line ≤ at + length f → ReadAt line at (Some (Last n))
+    read-last l = record { says = said_here (Some n) says; behind = parts-ended space line at (at + length f) ends l }

@@ -17,3 +17,5 @@ unfolding letter_of
 letter_none [] h = refl
 letter_none (c ∷ []) h = absurd (h refl)
 letter_none (c ∷ d ∷ cs) h = refl
+
+pub ruleset letters = (letter_one, letter_none)

@@ -7,12 +7,11 @@ use native.Mathlib.Omega.{arith}
 use mathlib.Core.Path.{◌≡◌, refl, sym, ◌∙◌}
 use mathlib.Core.Bool.{true, false, and-false}
 use mathlib.Core.List.{List, [], ◌∷◌}
-use lib.Dec.{leb}
 use lib.ListN.{length, get_or, drop, drop_of_length-le}
 use lib.Seq.{drop-cons}
 use borrow.Author.Tests.{le-leb, lt-leb, eq-eqb, ne_eqb}
 use Rattle.rules.specs.Sizes.{largest}
-use Rattle.rules.specs.Text.{all_digits, no_leading_zero, value_from, number_of}
+use Rattle.rules.specs.Text.{is_digit, all_digits, no_leading_zero, value_from, number_of}
 use Rattle.text.specs.Reading.{number_from}
 
 -- reading on never makes a number smaller
@@ -27,13 +26,9 @@ too_large n f l = rw (lt-leb (value_from n f) largest l, and-false)
 
 -- The digit b at the place i of a field, behind digits that say n.
 module _ (f : List ℕ) (n i b : ℕ) (h : i < length f) (e : b ≡ get_or f i 0) (so_far : number_from 0 f ≡ number_from n (drop i f)) where
-  pub stop_low : b < 48 → None ≡ number_from 0 f
+  pub stop_other : is_digit b ≡ false → None ≡ number_from 0 f
   unfolding number_from all_digits
-  stop_low l = rw (drop-cons f i 0 h, ← e, lt-leb 48 b l) at (sym so_far)
-
-  pub stop_high : 57 < b → None ≡ number_from 0 f
-  unfolding number_from all_digits
-  stop_high l = rw (drop-cons f i 0 h, ← e, lt-leb b 57 l, and-false (leb 48 b)) at (sym so_far)
+  stop_other d = rw (drop-cons f i 0 h, ← e, d) at (sym so_far)
 
   pub stop_large : largest < n * 10 + (b - 48) → None ≡ number_from 0 f
   unfolding value_from
@@ -41,9 +36,9 @@ module _ (f : List ℕ) (n i b : ℕ) (h : i < length f) (e : b ≡ get_or f i 0
       let v : n * 10 + (b - 48) ≤ value_from n (drop i f) = rw (drop-cons f i 0 h, ← e) (value_grows (n * 10 + (b - 48)) (drop (suc i) f)) in
       too_large n (drop i f) (omega arith) ∙ sym so_far
 
-  pub one_more_lem : 48 ≤ b → b ≤ 57 → number_from 0 f ≡ number_from (n * 10 + (b - 48)) (drop (i + 1) f)
+  pub one_more_lem : is_digit b ≡ true → number_from 0 f ≡ number_from (n * 10 + (b - 48)) (drop (i + 1) f)
   unfolding number_from all_digits value_from
-  one_more_lem l m = so_far ∙ rw (add-one, drop-cons f i 0 h, ← e, le-leb 48 b l, le-leb b 57 m)
+  one_more_lem d = so_far ∙ rw (add-one, drop-cons f i 0 h, ← e, d)
 
 pub all_read : (f : List ℕ) (n i : ℕ) → length f ≤ i → n ≤ largest → number_from 0 f ≡ number_from n (drop i f) → Some n ≡ number_from 0 f
 unfolding number_from all_digits value_from
@@ -59,25 +54,27 @@ never : (f : List ℕ) → no_leading_zero f ≡ false → None ≡ number_of f
 unfolding number_of
 never f e = rw e
 
-pub no_digit : (f : List ℕ) → length f ≡ 0 → None ≡ number_of f
+pub no_digit : (f : List ℕ) → length f < 1 → None ≡ number_of f
 unfolding no_leading_zero
 no_digit [] h = never [] refl
 no_digit (c ∷ cs) h = absurd (omega arith)
 
-pub leading_zero : (f : List ℕ) → (length f ≡ 1 → ⊥) → get_or f 0 0 ≡ 48 → None ≡ number_of f
+pub leading_zero : (f : List ℕ) → 2 ≤ length f → get_or f 0 0 ≡ 48 → None ≡ number_of f
 unfolding no_leading_zero
 leading_zero [] h e = never [] refl
-leading_zero (c ∷ []) h e = absurd (h refl)
+leading_zero (c ∷ []) h e = absurd (omega arith)
 leading_zero (c ∷ d ∷ cs) h e = never (c ∷ d ∷ cs) (rw (eq-eqb c 48 e))
 
-pub one_digit : (f : List ℕ) (r : Option ℕ) → r ≡ number_from 0 f → length f ≡ 1 → r ≡ number_of f
+pub one_digit : (f : List ℕ) (r : Option ℕ) → r ≡ number_from 0 f → 1 ≤ length f → length f < 2 → r ≡ number_of f
 unfolding no_leading_zero
-one_digit [] r q h = absurd (omega arith)
-one_digit (c ∷ []) r q h = q ∙ plainly (c ∷ []) refl
-one_digit (c ∷ d ∷ cs) r q h = absurd (omega arith)
+one_digit [] r q l h = absurd (omega arith)
+one_digit (c ∷ []) r q l h = q ∙ plainly (c ∷ []) refl
+one_digit (c ∷ d ∷ cs) r q l h = absurd (omega arith)
 
-pub no_zero : (f : List ℕ) (r : Option ℕ) → r ≡ number_from 0 f → (length f ≡ 0 → ⊥) → (get_or f 0 0 ≡ 48 → ⊥) → r ≡ number_of f
+pub no_zero : (f : List ℕ) (r : Option ℕ) → r ≡ number_from 0 f → 2 ≤ length f → (get_or f 0 0 ≡ 48 → ⊥) → r ≡ number_of f
 unfolding no_leading_zero
-no_zero [] r q h e = absurd (h refl)
+no_zero [] r q h e = absurd (omega arith)
 no_zero (c ∷ []) r q h e = q ∙ plainly (c ∷ []) refl
 no_zero (c ∷ d ∷ cs) r q h e = q ∙ plainly (c ∷ d ∷ cs) (rw (ne_eqb c 48 e))
+
+pub ruleset leading_zeros = (no_digit, leading_zero, one_digit, no_zero)

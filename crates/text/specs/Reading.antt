@@ -2,10 +2,8 @@
 use Rattle.std.specs.Prelude.{ℕ, ◌+◌, ◌-◌, ◌≤◌, ◌<◌, ◌≡◌, true, false, cond, ◌&&◌, List, [], ◌∷◌, leb, length, take, drop, Option, None, Some}
 use Rattle.rules.specs.Sizes.{largest}
 use Rattle.rules.specs.Text.{space, before, fields, Line, lines, all_digits, value_from, number_of}
-use Rattle.text.specs.declared.Number.{Number}
-use Rattle.text.specs.declared.Number.TheVariants.{Is, Not}
 use Rattle.text.specs.declared.Reading.{Reading}
-use Rattle.text.specs.declared.Reading.TheVariants.{Last, Then, Other}
+use Rattle.text.specs.declared.Reading.TheVariants.{Last, Then}
 use Rattle.text.specs.declared.NextLine.{NextLine}
 use Rattle.text.specs.declared.NextLine.TheVariants.{Ended, Unended, End}
 
@@ -20,28 +18,23 @@ letter_of [] = 0
 letter_of (c ∷ []) = c
 letter_of (c ∷ d ∷ cs) = 0
 
--- the number that an answer tells
-abbrev pub told : Number → Option ℕ
-told (Is n) = Some n
-told Not = None
-
 -- the number that digits say, behind those that say n
 unfoldable pub number_from : ℕ → List ℕ → Option ℕ
 number_from n f = cond (all_digits f && leb (value_from n f) largest) (Some (value_from n f)) None
 
 -- the number that was read
-abbrev pub number_read : Reading → Option ℕ
-number_read (Last n) = Some n
-number_read (Then n next) = Some n
-number_read Other = None
+abbrev pub number_read : Option Reading → Option ℕ
+number_read (Some (Last n)) = Some n
+number_read (Some (Then n next)) = Some n
+number_read None = None
 
 -- the fields from a place on: the one that was read, and those behind it
-abbrev pub Behind : List ℕ → ℕ → Reading → Type 0
-Behind line at (Last n) = fields (drop at line) ≡ before space (drop at line) ∷ []
-Behind line at (Then n next) = (fields (drop at line) ≡ before space (drop at line) ∷ fields (drop next line)) × (next ≤ length line)
-Behind line at Other = Unit {0}
+abbrev pub Behind : List ℕ → ℕ → Option Reading → Type 0
+Behind line at (Some (Last n)) = fields (drop at line) ≡ before space (drop at line) ∷ []
+Behind line at (Some (Then n next)) = (fields (drop at line) ≡ before space (drop at line) ∷ fields (drop next line)) × (next ≤ length line)
+Behind line at None = Unit {0}
 
-pub record ReadAt (line : List ℕ) (at : ℕ) (r : Reading) : Type 0 where
+pub record ReadAt (line : List ℕ) (at : ℕ) (r : Option Reading) : Type 0 where
   pub says : number_of (before space (drop at line)) ≡ number_read r
   pub behind : Behind line at r
 

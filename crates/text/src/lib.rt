@@ -3,25 +3,18 @@
 
 ghost use Rattle.std.specs.Prelude.{◌≡◌, ◌+◌, ◌≤◌, length, drop};
 ghost use Rattle.rules.specs.Text.{space, before, number_of, digits};
-ghost use Rattle.text.specs.Reading.{Found, letter_of, told, number_from, ReadAt, NextIs};
+ghost use Rattle.text.specs.Reading.{Found, letter_of, number_from, ReadAt, NextIs};
 ghost use Rattle.text.specs.Writing.{Appended};
 
-// What a field says: a number, or none.
-#[derive(Clone, Copy)]
-pub enum Number {
-    Is(u32),
-    Not,
-}
-
-// What the field at a place of a line says: the number of the line's last field, a number and the place of the next field, or none.
+// The number that the field at a place of a line says: of the line's last field, or with the place of the next field.
 #[derive(Clone, Copy)]
 pub enum Reading {
     Last(u32),
     Then(u32, usize),
-    Other,
 }
 
-// The line at a place of a script: where its line feed stands, or that it has none; or that the script ends there.
+// The line at a place of a script: where its line feed stands, or that it has none; or that the script ends there. No Option of the first two:
+// who asks tells all three apart, and passes none on.
 #[derive(Clone, Copy)]
 pub enum NextLine {
     Ended(usize),
@@ -34,14 +27,8 @@ pub fn find(s: &[u8], from: usize, b: u8) -> usize
     requires { from ≤ length s.now }
     ensures { Found s.now from b result }
 {
-    let mut i = from;
-    while i < s.len() {
-        if s[i] == b {
-            return i;
-        }
-        i += 1;
-    }
-    i
+    let rest = &s[from..];
+    from + rest.iter().position(|x| *x == b).unwrap_or(rest.len())
 }
 
 // The field that starts at a place of a line: a part of the lent line.
@@ -54,71 +41,53 @@ pub fn field(line: &[u8], at: usize) -> &[u8]
 }
 
 // The byte of a field of one byte, or 0.
+#[tactic(auto, using(crate::proofs::Letters::letters))]
 pub fn letter(field: &[u8]) -> u8
     ensures { result ≡ letter_of field.now }
 {
-    if field.len() == 1 { field[0] } else { 0 }
-}
-
-fn wide(b: u8) -> u64
-    ensures { result ≡ b }
-{
-    b as u64
-}
-
-fn digits_of(field: &[u8]) -> Number
-    ensures { told result ≡ number_from 0 field.now }
-{
-    let mut n: u64 = 0;
-    let mut i: usize = 0;
-    while i < field.len() {
-        let b = wide(field[i]);
-        if b < 48 {
-            return Number::Not;
-        }
-        if 57 < b {
-            return Number::Not;
-        }
-        let next = n * 10 + (b - 48);
-        if 4294967295 < next {
-            return Number::Not;
-        }
-        n = next;
-        i += 1;
+    match field {
+        [b] => *b,
+        _ => 0,
     }
-    Number::Is(n as u32)
+}
+
+fn digits_of(field: &[u8]) -> Option<u32>
+    ensures { result ≡ number_from 0 field.now }
+{
+    let mut n: u32 = 0;
+    for b in field {
+        if !b.is_ascii_digit() {
+            return None;
+        }
+        n = n.checked_mul(10)?.checked_add(u32::from(*b - b'0'))?;
+    }
+    Some(n)
 }
 
 // The number that a field says.
-pub fn number_of(field: &[u8]) -> Number
-    ensures { told result ≡ number_of field.now }
+#[tactic(auto, using(crate::proofs::Numbers::leading_zeros))]
+pub fn number_of(field: &[u8]) -> Option<u32>
+    ensures { result ≡ number_of field.now }
 {
-    if field.len() == 0 {
-        return Number::Not;
+    match field {
+        [] | [b'0', _, ..] => None,
+        _ => digits_of(field),
     }
-    if field.len() == 1 {
-        return digits_of(field);
-    }
-    if field[0] == b'0' {
-        return Number::Not;
-    }
-    digits_of(field)
 }
 
 // The number in the field that starts at a place of a line, and where the next field starts.
-pub fn number_at(line: &[u8], at: usize) -> Reading
+pub fn number_at(line: &[u8], at: usize) -> Option<Reading>
     requires { at ≤ length line.now }
     ensures { ReadAt line.now at result }
 {
     let f = field(line, at);
     let e = at + f.len();
-    let Number::Is(n) = number_of(f) else {
-        return Reading::Other;
-    };
-    if e < line.len() {
-        return Reading::Then(n, e + 1);
-    }
-    Reading::Last(n)
+    let n = number_of(f)?;
+    Some(if e < line.len() {
+        Reading::Then(n, e + 1)
+    } else {
+        Reading::Last(n)
+    })
 }
 
 // The line that starts at a place of a script.
@@ -140,12 +109,9 @@ pub fn put(buf: &mut [u8], at: usize, w: &[u8]) -> usize
     requires { at + length w.now ≤ length buf.old }
     ensures { Appended buf.old at w.now buf.new result }
 {
-    let mut i: usize = 0;
-    while i < w.len() {
-        buf[at + i] = w[i];
-        i += 1;
-    }
-    at + i
+    let end = at + w.len();
+    buf[at..end].copy_from_slice(w);
+    end
 }
 
 // Writes the digits of n into a buffer from a place on, and answers the place after them.
@@ -154,10 +120,10 @@ pub fn print_number(buf: &mut [u8], at: usize, n: u32) -> usize
     ensures { Appended buf.old at (digits n) buf.new result }
 {
     if n < 10 {
-        buf[at] = 48 + n as u8;
+        buf[at] = b'0' + n as u8;
         return at + 1;
     }
     let k = print_number(buf, at, n / 10);
-    buf[k] = 48 + (n % 10) as u8;
+    buf[k] = b'0' + (n % 10) as u8;
     k + 1
 }
