@@ -1,5 +1,5 @@
 -- What the first ground tells of some bytes is what the reader answers for the bundle.
-use Rattle.std.specs.Prelude.{Option, None, Some}
+use Rattle.std.specs.Prelude.{Option, None, Some, Result, Err}
 use Prim.Native.Nat.{ℕ, ◌+◌, ◌≤◌, ◌<◌}
 use native.Mathlib.Nat.{add-zero}
 use native.Mathlib.Omega.{arith}
@@ -13,27 +13,27 @@ use Rattle.bundle_rules.specs.Bundled.{longest}
 use Rattle.bundle_rules.specs.Reading.{entries_in, ground_of, or_refused, read_as}
 use Rattle.bundle_rules.proofs.Grounds.{none_clear, first_decides}
 use Rattle.bundle_rules.proofs.RoundTrip.{Accepted, accepted, bundled-read}
-use Rattle.bundle.specs.declared.BundleRead.{BundleRead}
-use Rattle.bundle.specs.declared.Verdict.TheVariants.{Refused}
+use Rattle.bundle.specs.declared.Contents.{Contents}
 use Rattle.bundle.specs.Reads.{Tells, Reads, ReadsCounted, Judged, Judges}
 
 -- All bytes are there.
 
-tells : (s : List ℕ) (r : BundleRead) (g : Option Refusal) → ground_of s (length s) ≡ g → Judged r s g → Tells r s (or_refused g (entries_in s))
+tells : (s : List ℕ) (r : Result Contents Refusal) (g : Option Refusal) → ground_of s (length s) ≡ g → Judged r s g → Tells r s (or_refused g (entries_in s))
 unfolding read_as
 tells s r (Some g) e j = j
 tells s r None e j =
     let a : Accepted s (entries_in s) = accepted s (entries_in s) (rw e) in (
       j.0,
+      j.1,
       record {
-        count = j.1.count ∙ a.count;
-        names = j.1.names ∙ a.names;
-        sizes = j.1.sizes ∙ a.sizes;
+        count = j.2.count ∙ a.count;
+        names = j.2.names ∙ a.names;
+        sizes = j.2.sizes ∙ a.sizes;
         whole = a.rest;
       },
     )
 
-pub reads_all : (s : List ℕ) (r : BundleRead) → Bytes s → Judges s 0 r → Reads s r
+pub reads_all : (s : List ℕ) (r : Result Contents Refusal) → Bytes s → Judges s 0 r → Reads s r
 unfolding read_as
 reads_all s r b j =
     record {
@@ -43,7 +43,7 @@ reads_all s r b j =
 
 -- Some are only counted: the whole is too long, so that a ground holds.
 
-refused_all : (s t : List ℕ) (r : BundleRead) (g : Option Refusal) → ground_of t (length t) ≡ g → (g ≡ None → ⊥) → Judged r s g → Reads t r
+refused_all : (s t : List ℕ) (r : Result Contents Refusal) (g : Option Refusal) → ground_of t (length t) ≡ g → (g ≡ None → ⊥) → Judged r s g → Reads t r
 unfolding read_as
 refused_all s t r None e f j = absurd (f refl)
 refused_all s t r (Some g) e f j =
@@ -52,7 +52,7 @@ refused_all s t r (Some g) e f j =
       bundle = λ es h. let z : ◌≡◌ {A = ℕ} 0 1 = cc (rw e at h) in absurd (omega arith);
     }
 
-module _ (kept : List ℕ) (more : ℕ) (r : BundleRead) where
+module _ (kept : List ℕ) (more : ℕ) (r : Result Contents Refusal) where
   pub counted_none : more ≡ 0 → Reads kept r → ReadsCounted kept more r
   counted_none z p =
       record {
@@ -61,7 +61,7 @@ module _ (kept : List ℕ) (more : ℕ) (r : BundleRead) where
         few = λ h l. absurd (omega arith);
       }
 
-  pub counted-few : (more ≡ 0 → ⊥) → length kept < longest → r.verdict ≡ Refused CutShort → ReadsCounted kept more r
+  pub counted-few : (more ≡ 0 → ⊥) → length kept < longest → r ≡ Err CutShort → ReadsCounted kept more r
   counted-few z k v =
       record {
         whole = λ e. absurd (z e);

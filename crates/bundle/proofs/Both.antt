@@ -1,4 +1,5 @@
 -- Reader and writer together, from their contracts alone.
+use Rattle.std.specs.Prelude.{Result, Ok, Err}
 use Prim.Native.Nat.{ℕ, ◌≤◌}
 use native.Mathlib.Omega.{arith}
 use mathlib.Core.Logic.{◌↔◌}
@@ -11,9 +12,6 @@ use Rattle.bundle_rules.specs.Bundled.{contents_length, Entry, bundled, Fits}
 use Rattle.bundle_rules.specs.Reading.{Answer, refused, holds, read_as}
 use Rattle.bundle_rules.proofs.RoundTrip.{bundled-length, fits_read, read-bundled}
 use Rattle.bundle.specs.declared.Contents.{Contents}
-use Rattle.bundle.specs.declared.BundleRead.{BundleRead}
-use Rattle.bundle.specs.declared.Written.{Written}
-use Rattle.bundle.specs.declared.Written.TheVariants.{Wrote, Not}
 use Rattle.bundle.specs.Contents.{Holds}
 use Rattle.bundle.specs.Reads.{Tells, Reads}
 use Rattle.bundle.specs.Writes.{whole_length, FirstAgainst, write_as, Leaves, Arrays, Writes}
@@ -71,41 +69,42 @@ pub record ReadsBack (c : Contents) (bs written : List ℕ) (es : List Entry) : 
   pub reads : read_as written ≡ holds es
 
 module _ (c : Contents) (bs old new : List ℕ) (n : ℕ) (a : Arrays c) where
-  back : (es : List Entry) → write_as c bs (length old) ≡ holds es → Leaves old new (Wrote n) (holds es) → ReadsBack c bs (take n new) es
+  back : (es : List Entry) → write_as c bs (length old) ≡ holds es → Leaves old new (Ok n) (holds es) → ReadsBack c bs (take n new) es
   back es e l =
       let p : CanWrite c bs (length old) es = (writes_exactly c bs (length old) es a).0 e in
       let k : length (bundled es) ≡ n = cc l.0 in
       let t : take n new ≡ bundled es = rw l.1 (take_at (bundled es) (drop (length (bundled es)) old) n k) in
       record { scripts = p.scripts; bytes = t; reads = rw t (read-bundled es p.fits) }
 
-  by_answer : (o : Answer) → write_as c bs (length old) ≡ o → Leaves old new (Wrote n) o → ReadsBack c bs (take n new) (scripts_of c bs)
+  by_answer : (o : Answer) → write_as c bs (length old) ≡ o → Leaves old new (Ok n) o → ReadsBack c bs (take n new) (scripts_of c bs)
   by_answer (refused g) e l = let z : ◌≡◌ {A = ℕ} 0 1 = cc l.0 in absurd (omega arith)
   by_answer (holds es) e l =
       subst (λ (fs : List Entry). ReadsBack c bs (take n new) fs) (sym (writes_writable c bs (length old) es e).1) (back es e l)
 
-pub written_reads_back : (c : Contents) (bs old new : List ℕ) (n : ℕ) → Writes c bs old new (Wrote n) → ReadsBack c bs (take n new) (scripts_of c bs)
+pub written_reads_back : (c : Contents) (bs old new : List ℕ) (n : ℕ) → Writes c bs old new (Ok n) → ReadsBack c bs (take n new) (scripts_of c bs)
 written_reads_back c bs old new n w = by_answer c bs old new n w.arrays (write_as c bs (length old)) refl w.leaves
 
 -- so does whatever meets the reader's contract
-pub written_then_read : (c : Contents) (bs old new : List ℕ) (n : ℕ) (r : BundleRead) → Writes c bs old new (Wrote n) → Reads (take n new) r → Tells r (take n new) (holds (scripts_of c bs))
+pub written_then_read : (c : Contents) (bs old new : List ℕ) (n : ℕ) (r : Result Contents Refusal) → Writes c bs old new (Ok n) → Reads (take n new) r → Tells r (take n new) (holds (scripts_of c bs))
 written_then_read c bs old new n r w d =
     subst (λ (o : Answer). Tells r (take n new) o) (written_reads_back c bs old new n w).reads d.tells
 
 -- READ, THEN WRITTEN AGAIN: the same bytes, into every buffer that is large enough, and behind them it is as it was.
-pub read_written_again : (s : List ℕ) (r : BundleRead) (es : List Entry) (old new : List ℕ) (w : Written) → Reads s r → read_as s ≡ holds es
-    → Writes r.contents (drop (contents_length (length es)) s) old new w → length s ≤ length old
-    → (w ≡ Wrote (length s)) × (new ≡ s ++ drop (length s) old)
-read_written_again s r es old new w d e k fit =
-    let t : Tells r s (holds es) = subst (λ (o : Answer). Tells r s o) e d.tells in
+pub read_written_again : (s : List ℕ) (c : Contents) (es : List Entry) (old new : List ℕ) (w : Result ℕ Refusal) → Reads s (Ok c) → read_as s ≡ holds es
+    → Writes c (drop (contents_length (length es)) s) old new w → length s ≤ length old
+    → (w ≡ Ok (length s)) × (new ≡ s ++ drop (length s) old)
+read_written_again s c es old new w d e k fit =
+    let t : Tells (Ok c) s (holds es) = subst (λ (o : Answer). Tells (Ok c) s o) e d.tells in
+    let same : t.0 ≡ c = cc t.1 in
     let b : s ≡ bundled es = d.bundle es e in
     let room : length (bundled es) ≤ length old = rw (← b) fit in
-    let h : write_as r.contents (drop (contents_length (length es)) s) (length old) ≡ holds es =
-    holds_written r.contents (drop (contents_length (length es)) s) es t.1 (length old) (fits_read s es e) room in
+    let h : write_as c (drop (contents_length (length es)) s) (length old) ≡ holds es =
+    holds_written c (drop (contents_length (length es)) s) es (rw same at t.2) (length old) (fits_read s es e) room in
     let l : Leaves old new w (holds es) = subst (λ (o : Answer). Leaves old new w o) h k.leaves in
-    subst (λ (x : List ℕ). (w ≡ Wrote (length x)) × (new ≡ x ++ drop (length x) old)) (sym b) l
+    subst (λ (x : List ℕ). (w ≡ Ok (length x)) × (new ≡ x ++ drop (length x) old)) (sym b) l
 
 -- Two answers that meet the writer's contract are equal, and so is every byte of the buffer.
-module _ (old new₁ new₂ : List ℕ) (r₁ r₂ : Written) where
+module _ (old new₁ new₂ : List ℕ) (r₁ r₂ : Result ℕ Refusal) where
   leaves-once : (o : Answer) → Leaves old new₁ r₁ o → Leaves old new₂ r₂ o → (r₁ ≡ r₂) × (new₁ ≡ new₂)
   leaves-once (refused g) a b = (a.0 ∙ sym b.0, a.1 ∙ sym b.1)
   leaves-once (holds es) a b = (a.0 ∙ sym b.0, a.1 ∙ sym b.1)
@@ -114,19 +113,19 @@ module _ (old new₁ new₂ : List ℕ) (r₁ r₂ : Written) where
   written_once c bs a b = leaves-once (write_as c bs (length old)) a.leaves b.leaves
 
 -- Each refusal is answered exactly when its ground is the first that holds, in the order 21, 22, 23, 20; and then nothing is written.
-module _ (c : Contents) (bs old new : List ℕ) (r : Written) (w : Writes c bs old new r) where
-  not-refused : (o : Answer) (g : Refusal) → Leaves old new r o → r ≡ Not g → o ≡ refused g
+module _ (c : Contents) (bs old new : List ℕ) (r : Result ℕ Refusal) (w : Writes c bs old new r) where
+  not-refused : (o : Answer) (g : Refusal) → Leaves old new r o → r ≡ Err g → o ≡ refused g
   not-refused (refused h) g l e = cc l.0
   not-refused (holds es) g l e = let z : ◌≡◌ {A = ℕ} 0 1 = cc l.0 in absurd (omega arith)
 
-  refused-leaves : (g : Refusal) → write_as c bs (length old) ≡ refused g → (r ≡ Not g) × (new ≡ old)
+  refused-leaves : (g : Refusal) → write_as c bs (length old) ≡ refused g → (r ≡ Err g) × (new ≡ old)
   refused-leaves g e = subst (λ (o : Answer). Leaves old new r o) e w.leaves
 
-  pub refuses_exactly : (g : Refusal) → (r ≡ Not g) ↔ FirstAgainst c bs (length old) g
+  pub refuses_exactly : (g : Refusal) → (r ≡ Err g) ↔ FirstAgainst c bs (length old) g
   refuses_exactly g = (
     λ e. (write_refused_exactly c bs (length old) g).0 (not-refused (write_as c bs (length old)) g w.leaves e),
     λ f. (refused-leaves g ((write_refused_exactly c bs (length old) g).1 f)).0,
   )
 
-  pub refused_untouched : (g : Refusal) → r ≡ Not g → new ≡ old
+  pub refused_untouched : (g : Refusal) → r ≡ Err g → new ≡ old
   refused_untouched g e = (refused-leaves g (not-refused (write_as c bs (length old)) g w.leaves e)).1

@@ -1,5 +1,5 @@
 -- What the writer leaves: the scripts that it was lent, bundled.
-use Rattle.std.specs.Prelude.{Some}
+use Rattle.std.specs.Prelude.{None, Some, Ok, Err}
 use Prim.Native.Nat.{ℕ}
 use native.Mathlib.Omega.{arith}
 use mathlib.Core.Path.{◌≡◌, refl, sym, ap, ◌∙◌}
@@ -13,11 +13,8 @@ use Rattle.bundle_rules.specs.Bundled.{name_length, Entry, bundled, entry_names,
 use Rattle.bundle_rules.specs.Reading.{entries_of}
 use Rattle.bundle_rules.proofs.Placing.{entries_of_lem}
 use Rattle.bundle.specs.declared.Contents.{Contents}
-use Rattle.bundle.specs.declared.Verdict.{Verdict}
-use Rattle.bundle.specs.declared.Verdict.TheVariants.{Good, Refused}
-use Rattle.bundle.specs.declared.Written.TheVariants.{Wrote, Not}
 use Rattle.bundle.specs.Contents.{names_in, sizes_in, Holds}
-use Rattle.bundle.specs.Writing.{ground_told, LentWhole, BundlePut}
+use Rattle.bundle.specs.Writing.{LentWhole, BundlePut}
 use Rattle.bundle.specs.Writes.{ground_to_write, write_as, Arrays, Writes}
 use Rattle.bundle.proofs.Entries.{entries-number, entries-names, entries-sizes, entries-bodies, stretches-number, stretches-full}
 use Rattle.bundle.proofs.Said.{bytes-held}
@@ -58,29 +55,26 @@ module _ (c : Contents) (bs : List ℕ) (room : ℕ) (a : Arrays c) (w : Writabl
   written_full = rw scripts_names (stretches-full c.count c.names (omega (arith, a.names, w.few)))
 
 -- The answers of the writer.
-module _ (c : Contents) (bs old : List ℕ) (v : Verdict) (a : Arrays c) (told : ground_told v ≡ ground_to_write c bs (length old)) where
-  pub writes_not : (g : Refusal) → v ≡ Refused g → Writes c bs old old (Not g)
+module _ (c : Contents) (bs old : List ℕ) (a : Arrays c) where
+  pub writes_not : (g : Refusal) → Some g ≡ ground_to_write c bs (length old) → Writes c bs old old (Err g)
   unfolding write_as
-  writes_not g e =
-      let k : ground_to_write c bs (length old) ≡ Some g = sym told ∙ ap ground_told e in
-      record { leaves = rw k (refl, refl); arrays = a }
+  writes_not g told = record { leaves = rw (← told) (refl, refl); arrays = a }
 
-  pub good_writable : v ≡ Good → Writable c bs (length old)
-  good_writable e = none_writable c bs (length old) (sym told ∙ ap ground_told e)
+  module _ (told : None ≡ ground_to_write c bs (length old)) where
+    good_writable : Writable c bs (length old)
+    good_writable = none_writable c bs (length old) (sym told)
 
-  pub good_lent : v ≡ Good → LentWhole c.names c.lengths c.count bs (length old)
-  good_lent e =
-      let w : Writable c bs (length old) = good_writable e in
-      record { rows = writable_lent c bs (length old) a w; whole = w.roomy }
+    pub good_lent : LentWhole c.names c.lengths c.count bs (length old)
+    good_lent = record { rows = writable_lent c bs (length old) a good_writable; whole = good_writable.roomy }
 
-  pub writes_bytes : (new : List ℕ) (r : ℕ) → v ≡ Good → BundlePut old c.names c.lengths c.count bs new r → Writes c bs old new (Wrote r)
-  writes_bytes new r e p =
-      let w : Writable c bs (length old) = good_writable e in
-      let q : Appended old 0 (bundled (scripts_of c bs)) new r = rw (bytes-held (written_holds c bs (length old) a w)) at p in
-      let n : r ≡ length (bundled (scripts_of c bs)) = omega (arith, q.end) in
-      record {
-        leaves =
-            rw (writable_writes c bs (length old) w)
-            (ap Wrote n, q.whole ∙ ap (λ (k : ℕ). bundled (scripts_of c bs) ++ drop k old) n);
-        arrays = a;
-      }
+    pub writes_bytes : (new : List ℕ) (r : ℕ) → BundlePut old c.names c.lengths c.count bs new r → Writes c bs old new (Ok r)
+    writes_bytes new r p =
+        let w : Writable c bs (length old) = good_writable in
+        let q : Appended old 0 (bundled (scripts_of c bs)) new r = rw (bytes-held (written_holds c bs (length old) a w)) at p in
+        let n : r ≡ length (bundled (scripts_of c bs)) = omega (arith, q.end) in
+        record {
+          leaves =
+              rw (writable_writes c bs (length old) w)
+              (ap Ok n, q.whole ∙ ap (λ (k : ℕ). bundled (scripts_of c bs) ++ drop k old) n);
+          arrays = a;
+        }

@@ -1,12 +1,10 @@
 -- What the writer writes, and answers.
-use Rattle.std.specs.Prelude.{ℕ, ◌+◌, ◌*◌, ◌<◌, ◌≡◌, Bool, true, false, cond, not, ◌&&◌, List, ◌++◌, eqb, leb, ltb, length, drop, Option, None, Some}
+use Rattle.std.specs.Prelude.{ℕ, ◌+◌, ◌*◌, ◌<◌, ◌≡◌, Bool, true, false, cond, not, ◌&&◌, List, ◌++◌, eqb, leb, ltb, length, drop, Option, None, Some, Result, Ok, Err}
 use Rattle.bundle_rules.specs.declared.Refusal.{Refusal}
 use Rattle.bundle_rules.specs.declared.Refusal.TheVariants.{CutShort, TooMany, BadName, BadBodies}
 use Rattle.bundle_rules.specs.Bundled.{name_length, most_scripts, longest, contents_length, bundled, well_named}
 use Rattle.bundle_rules.specs.Reading.{Answer, refused, holds, or_refused, entries_of}
 use Rattle.bundle.specs.declared.Contents.{Contents}
-use Rattle.bundle.specs.declared.Written.{Written}
-use Rattle.bundle.specs.declared.Written.TheVariants.{Wrote, Not}
 use Rattle.bundle.specs.Contents.{names_in, sizes_in, sum_of}
 
 -- the whole's length, where the lengths add up to the bodies
@@ -48,9 +46,9 @@ unfoldable pub write_as : Contents → List ℕ → ℕ → Answer
 write_as c bs room = or_refused (ground_to_write c bs room) (entries_of (names_in c) (sizes_in c) bs)
 
 -- on a refusal not a byte of the buffer changes, and behind the bundle it stays as it was
-abbrev pub Leaves : List ℕ → List ℕ → Written → Answer → Type 0
-Leaves old new r (refused g) = (r ≡ Not g) × (new ≡ old)
-Leaves old new r (holds es) = (r ≡ Wrote (length (bundled es))) × (new ≡ bundled es ++ drop (length (bundled es)) old)
+abbrev pub Leaves : List ℕ → List ℕ → Result ℕ Refusal → Answer → Type 0
+Leaves old new r (refused g) = (r ≡ Err g) × (new ≡ old)
+Leaves old new r (holds es) = (r ≡ Ok (length (bundled es))) × (new ≡ bundled es ++ drop (length (bundled es)) old)
 
 -- the arrays have their lengths, as any handed in have
 pub record Arrays (c : Contents) : Type 0 where
@@ -58,6 +56,6 @@ pub record Arrays (c : Contents) : Type 0 where
   pub lengths : length c.lengths ≡ most_scripts
 
 -- THE WRITER'S CONTRACT
-pub record Writes (c : Contents) (bs old new : List ℕ) (r : Written) : Type 0 where
+pub record Writes (c : Contents) (bs old new : List ℕ) (r : Result ℕ Refusal) : Type 0 where
   pub leaves : Leaves old new r (write_as c bs (length old))
   pub arrays : Arrays c

@@ -1,17 +1,9 @@
 -- What the parts of the writer are lent, and write.
-use Rattle.std.specs.Prelude.{ℕ, ◌+◌, ◌≤◌, ◌≡◌, List, ◌++◌, length, Option, None, Some}
+use Rattle.std.specs.Prelude.{ℕ, ◌+◌, ◌≤◌, ◌≡◌, List, ◌++◌, length}
 use Rattle.text.specs.Writing.{Appended}
-use Rattle.bundle_rules.specs.declared.Refusal.{Refusal}
 use Rattle.bundle_rules.specs.Numbers.{bytes_of, number_length}
 use Rattle.bundle_rules.specs.Bundled.{longest, contents_length, table_bytes}
-use Rattle.bundle.specs.declared.Verdict.{Verdict}
-use Rattle.bundle.specs.declared.Verdict.TheVariants.{Good, Refused}
 use Rattle.bundle.specs.Contents.{rows_said, Lent}
-
--- the ground that a verdict tells
-abbrev pub ground_told : Verdict → Option Refusal
-ground_told Good = None
-ground_told (Refused g) = Some g
 
 -- the rows of n names and lengths, as bytes
 abbrev pub rows_bytes : ℕ → List ℕ → List ℕ → List ℕ

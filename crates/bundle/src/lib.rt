@@ -7,7 +7,6 @@ mod numbers;
 mod reading;
 mod writing;
 
-use bundle_rules::Refusal;
 pub use reading::{body, read, read_counted};
 pub use writing::write;
 
@@ -26,30 +25,10 @@ pub const ROW_64: u64 = ROW as u64;
 
 pub const ROW_32: u32 = ROW as u32;
 
-#[derive(Clone, Copy)]
-pub enum Verdict {
-    Good,
-    Refused(Refusal),
-}
-
 // How many scripts, their names one behind the other, and their lengths. Offsets follow from them.
 #[derive(Clone, Copy)]
 pub struct Contents {
     pub count: u32,
     pub names: [u8; 4096],
     pub lengths: [u32; 256],
-}
-
-// What the reader answers; where it refuses, the contents mean nothing.
-#[derive(Clone, Copy)]
-pub struct BundleRead {
-    pub verdict: Verdict,
-    pub contents: Contents,
-}
-
-// What the writer answers: how many bytes it wrote, or why it wrote none.
-#[derive(Clone, Copy)]
-pub enum Written {
-    Wrote(usize),
-    Not(Refusal),
 }

@@ -8,7 +8,7 @@ ghost use Rattle.bundle.specs.Reads.{Enough, Whole, Judges, Reads, ReadsCounted}
 
 use super::names::well_named;
 use super::numbers::number_at;
-use super::{BundleRead, Contents, LONGEST, MOST, NAME, ROW, ROW_64, Verdict};
+use super::{Contents, LONGEST, MOST, NAME, ROW, ROW_64};
 use bundle_rules::Refusal;
 
 // The names of n rows, one behind the other.
@@ -86,67 +86,48 @@ fn well_placed(s: &[u8], n: usize, more: u64) -> bool
     in_order(s, n)
 }
 
-// A refusal; the contents mean nothing.
-fn refused(g: Refusal) -> BundleRead
-    ensures { result.verdict ≡ Verdict.Refused g }
-{
-    let names = [0u8; 4096];
-    let lengths = [0u32; 256];
-    BundleRead {
-        verdict: Verdict::Refused(g),
-        contents: Contents {
-            count: 0,
-            names,
-            lengths,
-        },
-    }
-}
-
 // What is said of a bundle with a whole table of n rows.
-fn judged(s: &[u8], n: usize, more: u64) -> BundleRead
+fn judged(s: &[u8], n: usize, more: u64) -> Result<Contents, Refusal>
     requires { Whole s.now n more }
     ensures { Judges s.now more result }
 {
     let mut names = [0u8; 4096];
     read_names(s, n, &mut names);
     if !well_named(&names, n) {
-        return refused(Refusal::BadName);
+        return Err(Refusal::BadName);
     }
     if !well_placed(s, n, more) {
-        return refused(Refusal::BadBodies);
+        return Err(Refusal::BadBodies);
     }
     let mut lengths = [0u32; 256];
     read_lengths(s, n, &mut lengths);
-    BundleRead {
-        verdict: Verdict::Good,
-        contents: Contents {
-            count: n as u32,
-            names,
-            lengths,
-        },
-    }
+    Ok(Contents {
+        count: n as u32,
+        names,
+        lengths,
+    })
 }
 
 // The first ground of a bundle that begins with these bytes and has so many more, or its contents.
-fn read_kept(s: &[u8], more: u64) -> BundleRead
+fn read_kept(s: &[u8], more: u64) -> Result<Contents, Refusal>
     requires { Enough s.now more }
     ensures { Judges s.now more result }
 {
     if s.len() < 4 {
-        return refused(Refusal::CutShort);
+        return Err(Refusal::CutShort);
     }
     let n = number_at(s, 0);
     if is_cut(s.len(), more, n) {
-        return refused(Refusal::CutShort);
+        return Err(Refusal::CutShort);
     }
     if MOST < n {
-        return refused(Refusal::TooMany);
+        return Err(Refusal::TooMany);
     }
     judged(s, n as usize, more)
 }
 
 // The scripts of a bundle, or why it is refused: 20, 21, 22, 23 in that order.
-pub fn read(bundle: &[u8]) -> BundleRead
+pub fn read(bundle: &[u8]) -> Result<Contents, Refusal>
     ensures { Reads bundle.now result }
 {
     read_kept(bundle, 0)
@@ -154,14 +135,14 @@ pub fn read(bundle: &[u8]) -> BundleRead
 
 // The same of a bundle of which only the first bytes are kept, and so many more stand behind them. Where there are more, and fewer than
 // 65,536 are kept, it is 20.
-pub fn read_counted(kept: &[u8], more: u64) -> BundleRead
+pub fn read_counted(kept: &[u8], more: u64) -> Result<Contents, Refusal>
     ensures { ReadsCounted kept.now more result }
 {
     if more == 0 {
         return read(kept);
     }
     if kept.len() < LONGEST {
-        return refused(Refusal::CutShort);
+        return Err(Refusal::CutShort);
     }
     read_kept(kept, more)
 }

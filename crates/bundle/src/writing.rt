@@ -1,15 +1,16 @@
 // A bundle written into a lent buffer.
 ghost use Rattle.std.specs.Prelude.{◌≡◌, ◌+◌, ◌*◌, ◌≤◌, length};
+ghost use Rattle.std.specs.Result.{result_err};
 ghost use Rattle.text.specs.Writing.{Appended};
 ghost use Rattle.bundle_rules.specs.Bundled.{name_length, row_length, unmarked, most_scripts, longest, contents_length, row_bytes};
 ghost use Rattle.bundle.specs.Contents.{Lent};
-ghost use Rattle.bundle.specs.Writing.{ground_told, LentWhole, RowsPut, BundlePut};
+ghost use Rattle.bundle.specs.Writing.{LentWhole, RowsPut, BundlePut};
 ghost use Rattle.bundle.specs.Writes.{ground_to_write, Writes};
 
 use super::names::well_named;
 use super::numbers::put_number;
 use super::reading::sum;
-use super::{Contents, LONGEST, MOST, NAME, ROW, ROW_32, Verdict, Written};
+use super::{Contents, LONGEST, MOST, NAME, ROW, ROW_32};
 use bundle_rules::Refusal;
 
 // A row of the contents.
@@ -52,41 +53,38 @@ fn put_bundle(out: &mut [u8], names: &[u8], lengths: &[u32], n: u32, bodies: &[u
 }
 
 // Why nothing is written, in the writer's order.
-fn ground(names: &[u8], lengths: &[u32], n: u32, bodies: &[u8], room: usize) -> Verdict
+fn ground(names: &[u8], lengths: &[u32], n: u32, bodies: &[u8], room: usize) -> Result<(), Refusal>
     requires { (length names.now ≡ name_length * most_scripts) × (length lengths.now ≡ most_scripts) }
-    ensures { ground_told result ≡ ground_to_write (record { count = n; names = names.now; lengths = lengths.now }) bodies.now room }
+    ensures { result_err result ≡ ground_to_write (record { count = n; names = names.now; lengths = lengths.now }) bodies.now room }
 {
     if MOST < n {
-        return Verdict::Refused(Refusal::TooMany);
+        return Err(Refusal::TooMany);
     }
     let k = n as usize;
     if !well_named(names, k) {
-        return Verdict::Refused(Refusal::BadName);
+        return Err(Refusal::BadName);
     }
     let size = bodies.len();
     if sum(lengths, k) != size as u64 {
-        return Verdict::Refused(Refusal::BadBodies);
+        return Err(Refusal::BadBodies);
     }
     let table = 4 + ROW * k;
     if LONGEST - table < size {
-        return Verdict::Refused(Refusal::BadBodies);
+        return Err(Refusal::BadBodies);
     }
     if room < table + size {
-        return Verdict::Refused(Refusal::CutShort);
+        return Err(Refusal::CutShort);
     }
-    Verdict::Good
+    Ok(())
 }
 
 // Writes a bundle into a buffer, or nothing: 21, 22, 23 and, where the buffer is too small, 20, in that order.
-pub fn write(contents: Contents, bodies: &[u8], out: &mut [u8]) -> Written
+pub fn write(contents: Contents, bodies: &[u8], out: &mut [u8]) -> Result<usize, Refusal>
     ensures { Writes contents bodies.now out.old out.new result }
 {
     let n = contents.count;
     let names = contents.names;
     let lengths = contents.lengths;
-    let verdict = ground(&names, &lengths, n, bodies, out.len());
-    match verdict {
-        Verdict::Refused(g) => Written::Not(g),
-        Verdict::Good => Written::Wrote(put_bundle(out, &names, &lengths, n, bodies)),
-    }
+    ground(&names, &lengths, n, bodies, out.len())?;
+    Ok(put_bundle(out, &names, &lengths, n, bodies))
 }

@@ -1,4 +1,5 @@
 -- What the reader answers, and so what is printed for a bundle of which some bytes are kept and the others counted.
+use Rattle.std.specs.Prelude.{Result, Ok, Err}
 use Prim.Native.Nat.{ℕ, suc, ◌+◌, ◌*◌, ◌/◌, ◌≤◌, ◌<◌}
 use native.Mathlib.Nat.{div-add-mod'}
 use native.Mathlib.Decide.{dec_le, dec_lt}
@@ -16,8 +17,6 @@ use Rattle.bundle_rules.specs.Bundled.{name_length, most_scripts, longest, conte
 use Rattle.bundle_rules.specs.Reading.{Answer, refused, holds, read_as}
 use Rattle.bundle_rules.proofs.RoundTrip.{accepted, fits_read}
 use Rattle.bundle.specs.declared.Contents.{Contents}
-use Rattle.bundle.specs.declared.BundleRead.{BundleRead}
-use Rattle.bundle.specs.declared.Verdict.TheVariants.{Good, Refused}
 use Rattle.bundle.specs.Contents.{Holds, end_of, Lent}
 use Rattle.bundle.specs.Reads.{Tells, Reads, ReadsCounted}
 use Rattle.bundle.proofs.Said.{rows-held, end-held}
@@ -80,39 +79,39 @@ empty : (rest : List ℕ) → length rest ≡ 0 → rest ≡ []
 empty [] e = refl
 empty (x ∷ rest) e = absurd (omega arith)
 
-is_refused : (r : BundleRead) (s : List ℕ) (g : Refusal) (a : Answer) → Tells r s a → r.verdict ≡ Refused g → a ≡ refused g
-is_refused r s g (refused h) t e = let i : h ≡ g = cc in rw i
-is_refused r s g (holds es) t e = let z : ◌≡◌ {A = ℕ} 0 1 = cc t.0 in absurd (omega arith)
+is_refused : (s : List ℕ) (g : Refusal) (a : Answer) → Tells (Err g) s a → a ≡ refused g
+is_refused s g (refused h) t = let i : h ≡ g = cc in rw i
+is_refused s g (holds es) t = let z : ◌≡◌ {A = ℕ} 0 1 = cc t.1 in absurd (omega arith)
 
 -- the scripts of a bundle that is not refused
-record Scripts (r : BundleRead) (s : List ℕ) : Type 0 where
+record Scripts (c : Contents) (s : List ℕ) : Type 0 where
   es : List Entry
   is : read_as s ≡ holds es
-  held : Holds r.contents (drop (contents_length (length es)) s) es
+  held : Holds c (drop (contents_length (length es)) s) es
 
-is_good : (r : BundleRead) (s : List ℕ) (a : Answer) → read_as s ≡ a → Tells r s a → r.verdict ≡ Good → Scripts r s
-is_good r s (refused h) i t e = let z : ◌≡◌ {A = ℕ} 0 1 = cc in absurd (omega arith)
-is_good r s (holds es) i t e = record { es = es; is = i; held = t.1 }
+is_good : (c : Contents) (s : List ℕ) (a : Answer) → read_as s ≡ a → Tells (Ok c) s a → Scripts c s
+is_good c s (refused h) i t = let z : ◌≡◌ {A = ℕ} 0 1 = cc in absurd (omega arith)
+is_good c s (holds es) i t = let same : t.0 ≡ c = cc t.1 in record { es = es; is = i; held = rw same at t.2 }
 
-module _ (kept : List ℕ) (more : ℕ) (r : BundleRead) (k : ReadsCounted kept more r) where
-  reads_rest : (rest : List ℕ) → Behind kept more rest → Reads (kept ++ rest) r
-  reads_rest rest b =
-      elim (dec_lt 0 more) [
-        | yes h ↦ k.first h (b.enough h) rest b.number
-        | no h ↦
-            let z : rest ≡ [] = empty rest (omega (arith, b.number)) in
-            rw (z, append-nil kept) (k.whole (omega arith))
-      ]
+reads_rest : (kept : List ℕ) (more : ℕ) (r : Result Contents Refusal) → ReadsCounted kept more r → (rest : List ℕ) → Behind kept more rest → Reads (kept ++ rest) r
+reads_rest kept more r k rest b =
+    elim (dec_lt 0 more) [
+      | yes h ↦ k.first h (b.enough h) rest b.number
+      | no h ↦
+          let z : rest ≡ [] = empty rest (omega (arith, b.number)) in
+          rw (z, append-nil kept) (k.whole (omega arith))
+    ]
 
-  pub prints_refused : (text_of : Answer → List ℕ) (g : Refusal) (old out : List ℕ) (n : ℕ) → ((h : Refusal) → text_of (refused h) ≡ refusal_text h) → r.verdict ≡ Refused g → length kept < length old / byte_room
+module _ (kept : List ℕ) (more : ℕ) where
+  pub prints_refused : (text_of : Answer → List ℕ) (g : Refusal) (old out : List ℕ) (n : ℕ) → ReadsCounted kept more (Err g) → ((h : Refusal) → text_of (refused h) ≡ refusal_text h) → length kept < length old / byte_room
       → Appended old 0 (refusal_text g) out n → PrintsFor text_of kept more old out n
-  prints_refused text_of g old out n t e h a =
+  prints_refused text_of g old out n k t h a =
       prints_text text_of kept more old (room-there (length old) (length kept) h) a
-      (λ rest b. sym (ap text_of (is_refused r (kept ++ rest) g (read_as (kept ++ rest)) (reads_rest rest b).tells e) ∙ t g))
+      (λ rest b. sym (ap text_of (is_refused (kept ++ rest) g (read_as (kept ++ rest)) (reads_rest kept more (Err g) k rest b).tells) ∙ t g))
       (λ m l. let i : g ≡ CutShort = cc (k.few m l) in ap refusal_text i ∙ sym (t CutShort))
 
   -- a bundle that is not refused is kept whole
-  module _ (e : r.verdict ≡ Good) where
+  module _ (c : Contents) (k : ReadsCounted kept more (Ok c)) where
     none_more : more ≡ 0
     none_more =
         elim (dec_lt 0 more) [
@@ -123,7 +122,7 @@ module _ (kept : List ℕ) (more : ℕ) (r : BundleRead) (k : ReadsCounted kept 
                 | yes l ↦
                     let s = kept ++ replicate more 0 in
                     let q = k.first h l (replicate more 0) (length-replicate {A = ℕ} more 0) in
-                    let g = is_good r s (read_as s) refl q.tells e in
+                    let g = is_good c s (read_as s) refl q.tells in
                     absurd
                     (omega (
                       arith,
@@ -135,17 +134,17 @@ module _ (kept : List ℕ) (more : ℕ) (r : BundleRead) (k : ReadsCounted kept 
               ]
         ]
 
-    scripts : Scripts r kept
-    scripts = is_good r kept (read_as kept) refl (k.whole none_more).tells e
+    scripts : Scripts c kept
+    scripts = is_good c kept (read_as kept) refl (k.whole none_more).tells
 
-    pub ends_there : EndsBy r.contents (length kept)
+    pub ends_there : EndsBy c (length kept)
     ends_there =
         record {
           few = omega (arith, (fits_read kept scripts.es scripts.is).few, scripts.held.count);
           ends = omega (arith, end-held scripts.held, (accepted kept scripts.es scripts.is).size);
         }
 
-    pub ends-short : EndsBy r.contents longest
+    pub ends-short : EndsBy c longest
     ends-short =
         let d = ends_there in
         record {
@@ -155,7 +154,7 @@ module _ (kept : List ℕ) (more : ℕ) (r : BundleRead) (k : ReadsCounted kept 
               (arith, d.ends, (fits_read kept scripts.es scripts.is).short, ap length ((k.whole none_more).bundle scripts.es scripts.is));
         }
 
-    pub list_room : (m : ℕ) → length kept < m / byte_room → byte_room * end_of r.contents.count r.contents.lengths ≤ m
+    pub list_room : (m : ℕ) → length kept < m / byte_room → byte_room * end_of c.count c.lengths ≤ m
     list_room m h = omega (arith, room-there m (length kept) h, ends_there.ends)
 
     told : (text_of : Answer → List ℕ) (rest : List ℕ) → Behind kept more rest → text_of (holds scripts.es) ≡ text_of (read_as (kept ++ rest))
@@ -167,13 +166,13 @@ module _ (kept : List ℕ) (more : ℕ) (r : BundleRead) (k : ReadsCounted kept 
     never_few h = absurd (omega (arith, none_more))
 
     module _ (old out : List ℕ) (n : ℕ) (h : length kept < length old / byte_room) where
-      pub prints_scripts : Appended old 0 (scripts_at kept (rows_in r.contents)) out n → PrintsFor run_text kept more old out n
+      pub prints_scripts : Appended old 0 (scripts_at kept (rows_in c)) out n → PrintsFor run_text kept more old out n
       prints_scripts a =
-          let is : scripts_at kept (rows_in r.contents) ≡ scripts_text scripts.es =
+          let is : scripts_at kept (rows_in c) ≡ scripts_text scripts.es =
           ap (scripts_at kept) (rows-held scripts.held) ∙ ap scripts_text (scripts_placed kept (contents_length (length scripts.es)) scripts.es scripts.held.whole) in
           prints_text run_text kept more old (room-there (length old) (length kept) h) a (λ rest b. is ∙ told run_text rest b) (λ m l. never_few m)
 
-      pub prints_rows : Appended old 0 (rows_text (rows_in r.contents)) out n → PrintsFor list_text kept more old out n
+      pub prints_rows : Appended old 0 (rows_text (rows_in c)) out n → PrintsFor list_text kept more old out n
       prints_rows a =
           prints_text list_text kept more old (room-there (length old) (length kept) h) a (λ rest b. ap rows_text (rows-held scripts.held) ∙ told list_text rest b) (λ m l. never_few m)
 

@@ -9,7 +9,7 @@ ghost use Rattle.bundle.specs.Contents.{end_of};
 ghost use Rattle.bundle_jobs.specs.Printed.{rows_text, run_text, list_text, room_for, PrintsFor};
 ghost use Rattle.bundle_jobs.specs.Placing.{rows_in, EndsBy, scripts_at};
 
-use bundle::{Contents, Verdict};
+use bundle::Contents;
 
 mod names;
 mod rows;
@@ -53,11 +53,9 @@ pub fn run(bundle: &[u8], more: u64, out: &mut [u8]) -> usize
     if out.len() / trace::BYTE_ROOM <= bundle.len() {
         return 0;
     }
-    let r = bundle::read_counted(bundle, more);
-    let verdict = r.verdict;
-    match verdict {
-        Verdict::Refused(why) => texts::put_refusal(out, why),
-        Verdict::Good => run_all(bundle, r.contents, out),
+    match bundle::read_counted(bundle, more) {
+        Err(why) => texts::put_refusal(out, why),
+        Ok(contents) => run_all(bundle, contents, out),
     }
 }
 
@@ -68,10 +66,8 @@ pub fn list(bundle: &[u8], more: u64, out: &mut [u8]) -> usize
     if out.len() / trace::BYTE_ROOM <= bundle.len() {
         return 0;
     }
-    let r = bundle::read_counted(bundle, more);
-    let verdict = r.verdict;
-    match verdict {
-        Verdict::Refused(why) => texts::put_refusal(out, why),
-        Verdict::Good => list_all(r.contents, out),
+    match bundle::read_counted(bundle, more) {
+        Err(why) => texts::put_refusal(out, why),
+        Ok(contents) => list_all(contents, out),
     }
 }

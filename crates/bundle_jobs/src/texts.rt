@@ -23,7 +23,7 @@ pub fn put_refusal(out: &mut [u8], why: Refusal) -> usize
     ensures { Appended out.old 0 (refusal_text why) out.new result }
 {
     let p = text::put(out, 0, b"r");
-    let q = text::print_number(out, p, bundle_rules::number(why) as u32);
+    let q = text::print_number(out, p, u32::from(u8::from(why)));
     text::put(out, q, b"\n")
 }
 

@@ -13,13 +13,15 @@ pub enum Refusal {
 }
 
 // Document 02's number of a refusal.
-pub fn number(r: Refusal) -> u8
-    ensures { result ≡ number_of r }
-{
-    match r {
-        Refusal::CutShort => 20,
-        Refusal::TooMany => 21,
-        Refusal::BadName => 22,
-        Refusal::BadBodies => 23,
+impl From<Refusal> for u8 {
+    ghost from_gives = { λ r n. n ≡ number_of r };
+
+    fn from(r: Refusal) -> u8 {
+        match r {
+            Refusal::CutShort => 20,
+            Refusal::TooMany => 21,
+            Refusal::BadName => 22,
+            Refusal::BadBodies => 23,
+        }
     }
 }

@@ -1,8 +1,7 @@
 // Bundles as a caller of the library has them: written again, a body cut out, and judged by more bytes than are kept.
 use super::BUNDLE;
-use bundle::{Verdict, Written};
 use bundle_rules::Refusal;
-use std::io::Result;
+use std::io;
 
 // A bundle of two scripts: `k1`, of 14 bytes, and `empty`, of none.
 fn two() -> [u8; 66] {
@@ -15,25 +14,25 @@ fn two() -> [u8; 66] {
     s
 }
 
-fn say_refusal(rt: &impl Print, why: Refusal) -> Result<()> {
-    print!(rt; "r{}", bundle_rules::number(why))
+fn say_refusal(rt: &impl Print, why: Refusal) -> io::Result<()> {
+    print!(rt; "r{}", u8::from(why))
 }
 
 // That bundle read, and written again into a buffer.
-fn write_again(out: &mut [u8]) -> Written {
+fn write_again(out: &mut [u8]) -> Result<usize, Refusal> {
     let whole = two();
-    let read = bundle::read(&whole);
-    bundle::write(read.contents, &whole[52..], out)
+    let contents = bundle::read(&whole)?;
+    bundle::write(contents, &whole[52..], out)
 }
 
-fn say_written(rt: &impl Print, w: Written) -> Result<()> {
+fn say_written(rt: &impl Print, w: Result<usize, Refusal>) -> io::Result<()> {
     match w {
-        Written::Wrote(n) => print!(rt; "{n}"),
-        Written::Not(why) => say_refusal(rt, why),
+        Ok(n) => print!(rt; "{n}"),
+        Err(why) => say_refusal(rt, why),
     }
 }
 
-fn say_room(rt: &impl Print) -> Result<()> {
+fn say_room(rt: &impl Print) -> io::Result<()> {
     print!(rt; "66 bytes written again into 66: ")?;
     let mut out = [0u8; 66];
     say_written(rt, write_again(&mut out))?;
@@ -44,20 +43,24 @@ fn say_room(rt: &impl Print) -> Result<()> {
     }
 }
 
-fn say_no_room(rt: &impl Print) -> Result<()> {
+fn say_no_room(rt: &impl Print) -> io::Result<()> {
     print!(rt; "66 bytes written again into 65: ")?;
     let mut out = [0u8; 65];
     say_written(rt, write_again(&mut out))?;
     println!(rt)
 }
 
-fn say_body(rt: &impl Print) -> Result<()> {
+fn say_body(rt: &impl Print) -> io::Result<()> {
     let whole = two();
-    let read = bundle::read(&whole);
-    let body = bundle::body(&whole, read.contents, 0);
-    let n = body.len();
-    println!(rt; "the first body, {n} bytes:")?;
-    rt.write_all(body)
+    match bundle::read(&whole) {
+        Err(why) => say_refusal(rt, why),
+        Ok(contents) => {
+            let body = bundle::body(&whole, contents, 0);
+            let n = body.len();
+            println!(rt; "the first body, {n} bytes:")?;
+            rt.write_all(body)
+        }
+    }
 }
 
 // The first bytes of a bundle whose count is 2,916: its table has 69,988 bytes.
@@ -68,17 +71,16 @@ fn kept() -> [u8; BUNDLE] {
     s
 }
 
-fn say_counted(rt: &impl Print, more: u64) -> Result<()> {
+fn say_counted(rt: &impl Print, more: u64) -> io::Result<()> {
     let s = kept();
-    let verdict = bundle::read_counted(&s, more).verdict;
-    match verdict {
-        Verdict::Good => print!(rt; "good")?,
-        Verdict::Refused(why) => say_refusal(rt, why)?,
+    match bundle::read_counted(&s, more) {
+        Ok(_) => print!(rt; "good")?,
+        Err(why) => say_refusal(rt, why)?,
     }
     println!(rt)
 }
 
-pub fn tell(rt: &impl Print) -> Result<()> {
+pub fn tell(rt: &impl Print) -> io::Result<()> {
     say_room(rt)?;
     say_no_room(rt)?;
     say_body(rt)?;

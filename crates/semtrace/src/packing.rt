@@ -4,9 +4,10 @@ ghost use Rattle.filling.specs.Counts.{IsPrefixLen};
 
 use super::BUNDLE;
 use super::writing::{fail, put};
-use bundle::{Contents, Written};
+use bundle::Contents;
+use bundle_rules::Refusal;
 use std::fs::File;
-use std::io::{Error, ErrorKind, Read, Result};
+use std::io::{self, Error, ErrorKind, Read};
 use std::str;
 
 // How far the bodies reach in their buffer, and whether every file could be read.
@@ -63,7 +64,7 @@ fn ended(rt: &HostRuntime, file: &mut File, path: &[u8]) -> bool {
 }
 
 // The file at a path; std opens paths of UTF-8 alone.
-fn open(rt: &HostRuntime, path: &[u8]) -> Result<File> {
+fn open(rt: &HostRuntime, path: &[u8]) -> io::Result<File> {
     match str::from_utf8(path) {
         Ok(name) => File::open(rt, name),
         Err(_) => Err(Error::new(ErrorKind::InvalidInput, "a path that is not UTF-8")),
@@ -137,15 +138,15 @@ fn gather(
     Gathered { at, whole: true }
 }
 
-fn say(rt: &HostRuntime, r: Written, out: &[u8]) {
+fn say(rt: &HostRuntime, r: Result<usize, Refusal>, out: &[u8]) {
     match r {
-        Written::Wrote(n) => {
+        Ok(n) => {
             if n <= out.len() {
                 put(rt, &out[..n]);
             }
         }
-        Written::Not(why) => {
-            let _ = eprintln!(rt; "r{}", bundle_rules::number(why));
+        Err(why) => {
+            let _ = eprintln!(rt; "r{}", u8::from(why));
         }
     }
 }

@@ -8,15 +8,16 @@ ghost use Rattle.bundle.specs.Reads.{Reads, ReadsCounted};
 ghost use Rattle.bundle.specs.Writes.{Writes};
 ghost use Rattle.bundle_jobs.specs.Named.{name_for};
 
-use bundle::{BundleRead, Contents, Written};
+use bundle::Contents;
+use bundle_rules::Refusal;
 
-pub fn read(bundle: &[u8]) -> BundleRead
+pub fn read(bundle: &[u8]) -> Result<Contents, Refusal>
     ensures { Reads bundle.now result }
 {
     bundle::read(bundle)
 }
 
-pub fn read_counted(kept: &[u8], more: u64) -> BundleRead
+pub fn read_counted(kept: &[u8], more: u64) -> Result<Contents, Refusal>
     ensures { ReadsCounted kept.now more result }
 {
     bundle::read_counted(kept, more)
@@ -28,7 +29,7 @@ pub fn body(bundle: &[u8], contents: Contents, i: usize) -> &[u8]
     bundle::body(bundle, contents, i)
 }
 
-pub fn write(contents: Contents, bodies: &[u8], out: &mut [u8]) -> Written
+pub fn write(contents: Contents, bodies: &[u8], out: &mut [u8]) -> Result<usize, Refusal>
     ensures { Writes contents bodies.now out.old out.new result }
 {
     bundle::write(contents, bodies, out)

@@ -1,4 +1,5 @@
 -- `list`: no room, a refusal, or the rows.
+use lib.ListN.{length}
 use borrow.Author.Rules.{rules}
 use Rattle.bundle_jobs.proofs.Telling.{prints_none, refusal-room, ends-short, list_room, prints_refused, list_refused, prints_rows}
 use Rattle.bundle_jobs.proofs.list.Goals as goal
@@ -10,10 +11,13 @@ pub put_refusal-requires : goal.put_refusal-requires
 put_refusal-requires c = search (refusal-room, rules)
 
 pub list_all-requires : goal.list_all-requires
-list_all-requires c = search (ends-short, list_room, rules)
+list_all-requires c =
+    (ends-short c.args.bundle.now c.args.more c.in-Ok.contents c.in-Ok.ensures, list_room c.args.bundle.now c.args.more c.in-Ok.contents c.in-Ok.ensures (length c.args.out.now) c.if-out-bundle.false)
 
-pub returns-in-Refused : goal.returns-in-Refused
-returns-in-Refused c = search (prints_refused, list_refused, rules)
+pub returns-in-Err : goal.returns-in-Err
+returns-in-Err c =
+    prints_refused c.args.bundle.now c.args.more _ c.in-Err.why _ _ _ c.in-Err.ensures list_refused c.if-out-bundle.false c.put_refusal.ensures
 
-pub returns-in-Good : goal.returns-in-Good
-returns-in-Good c = search (prints_rows, rules)
+pub returns-in-Ok : goal.returns-in-Ok
+returns-in-Ok c =
+    prints_rows c.args.bundle.now c.args.more c.in-Ok.contents c.in-Ok.ensures _ _ _ c.if-out-bundle.false c.list_all.ensures

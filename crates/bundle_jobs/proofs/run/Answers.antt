@@ -1,4 +1,5 @@
 -- `run`: no room, a refusal, or the scripts.
+use lib.ListN.{length}
 use borrow.Author.Rules.{rules}
 use Rattle.bundle_jobs.proofs.Telling.{prints_none, refusal-room, ends_there, room-there, prints_refused, run-refused, prints_scripts}
 use Rattle.bundle_jobs.proofs.run.Goals as goal
@@ -10,10 +11,13 @@ pub put_refusal-requires : goal.put_refusal-requires
 put_refusal-requires c = search (refusal-room, rules)
 
 pub run_all-requires : goal.run_all-requires
-run_all-requires c = search (ends_there, room-there, rules)
+run_all-requires c =
+    (ends_there c.args.bundle.now c.args.more c.in-Ok.contents c.in-Ok.ensures, room-there (length c.args.out.now) (length c.args.bundle.now) c.if-out-bundle.false)
 
-pub returns-in-Refused : goal.returns-in-Refused
-returns-in-Refused c = search (prints_refused, run-refused, rules)
+pub returns-in-Err : goal.returns-in-Err
+returns-in-Err c =
+    prints_refused c.args.bundle.now c.args.more _ c.in-Err.why _ _ _ c.in-Err.ensures run-refused c.if-out-bundle.false c.put_refusal.ensures
 
-pub returns-in-Good : goal.returns-in-Good
-returns-in-Good c = search (prints_scripts, rules)
+pub returns-in-Ok : goal.returns-in-Ok
+returns-in-Ok c =
+    prints_scripts c.args.bundle.now c.args.more c.in-Ok.contents c.in-Ok.ensures _ _ _ c.if-out-bundle.false c.run_all.ensures
