@@ -46,42 +46,26 @@ pub struct Eaten {
 
 // The clock in a row of clocks that stand flat.
 pub fn clock_at(flat: &[u32], place: usize) -> VectorClock
-    requires { (place < batch_count) × (place * width + width ≤ length flat.now) }
+    requires { place * width + width ≤ length flat.now }
     ensures { result.0 ≡ row width flat.now place }
 {
-    let base = place * VectorClock::WIDTH;
-    let mut out = VectorClock::new();
-    let mut j: usize = 0;
-    while j < VectorClock::WIDTH {
-        let x = flat[base + j];
-        out.0[j] = x;
-        j += 1;
-    }
-    out
+    VectorClock(tables::row(flat, place))
 }
 
 // A row becomes the clock.
 pub fn store_clock(flat: &mut [u32], place: usize, clock: VectorClock)
-    requires { (place < batch_count) × (place * width + width ≤ length flat.old) }
+    requires { place * width + width ≤ length flat.old }
     ensures { flat.new ≡ paste flat.old (place * width) clock.0 width }
 {
-    let base = place * VectorClock::WIDTH;
-    let mut j: usize = 0;
-    while j < VectorClock::WIDTH {
-        let x = clock.0[j];
-        flat[base + j] = x;
-        j += 1;
-    }
+    tables::store(flat, place, clock.0);
 }
 
 // A row is joined with the clock.
 pub fn join_row(flat: &mut [u32], place: usize, clock: VectorClock)
-    requires { (place < batch_count) × (place * width + width ≤ length flat.old) }
+    requires { place * width + width ≤ length flat.old }
     ensures { flat.new ≡ paste flat.old (place * width) (join (row width flat.old place) clock.0) width }
 {
-    let before = clock_at(flat, place);
-    let after = before.update(clock);
-    store_clock(flat, place, after);
+    store_clock(flat, place, clock_at(flat, place).update(clock));
 }
 
 impl PermitClocks {

@@ -10,13 +10,6 @@ use rules::TaskId;
 #[derive(Clone, Copy)]
 pub struct VectorClock(pub [u32; 16]);
 
-// The larger of two entries.
-fn larger(x: u32, y: u32) -> u32
-    ensures { result ≡ max x y }
-{
-    if x < y { y } else { x }
-}
-
 impl VectorClock {
     // The entries of a clock.
     pub const WIDTH: usize = 16;
@@ -33,9 +26,8 @@ impl VectorClock {
         requires { (own.0 < width) × (get_or self.0 own.0 0 < largest) }
         ensures { result.0 ≡ tick own.0 self.0 }
     {
-        let i = own.0 as usize;
         let mut out = self;
-        out.0[i] = out.0[i] + 1;
+        out.0[own.0 as usize] += 1;
         out
     }
 
@@ -44,11 +36,8 @@ impl VectorClock {
         ensures { result.0 ≡ join self.0 other.0 }
     {
         let mut out = self;
-        let mut i: usize = 0;
-        while i < VectorClock::WIDTH {
-            let x = larger(self.0[i], other.0[i]);
-            out.0[i] = x;
-            i += 1;
+        for i in 0..VectorClock::WIDTH {
+            out.0[i] = self.0[i].max(other.0[i]);
         }
         out
     }
@@ -57,7 +46,6 @@ impl VectorClock {
     pub fn get(self, i: TaskId) -> u32
         ensures { result ≡ get_or self.0 i.0 0 }
     {
-        let i = i.0 as usize;
-        if i < VectorClock::WIDTH { self.0[i] } else { 0 }
+        *self.0.get(i.0 as usize).unwrap_or(&0)
     }
 }

@@ -2,13 +2,11 @@
 use Prim.Native.Nat.{ℕ, ◌+◌, ◌*◌, ◌-◌, ◌≤◌, ◌<◌}
 use native.Mathlib.Nat.{suc-mul, mul-le-mul_right}
 use native.Mathlib.Decide.{dec_lt}
-use native.Mathlib.Numerals.{add-one}
 use native.Mathlib.Omega.{arith}
 use mathlib.Core.Path.{◌≡◌, sym, ap, ◌∙◌}
 use mathlib.Core.List.{List, ◌++◌, append_assoc}
-use lib.ListN.{length, get_or, set, take, drop, length-drop, take-append-drop}
-use lib.Seq.{paste, take_at, drop_at, take_all, take-append-le, drop-append-le, drop-drop, paste-suc, drop-paste, length-take-le, get_or-take, get_or-drop}
-use Rattle.tables.proofs.Filling.{filled, fills_more, fills_whole}
+use lib.ListN.{length, take, drop, length-drop, take-append-drop}
+use lib.Seq.{paste, take_at, drop_at, take_all, take-append-le, drop-append-le, drop-drop, drop-paste, length-take-le}
 use Rattle.tables.specs.Table.{row}
 
 -- row p ends where row p + 1 begins
@@ -18,23 +16,6 @@ row-end w p n h = rw suc-mul at (mul-le-mul_right w h)
 module _ (w : ℕ) (xs : List ℕ) (p : ℕ) (inside : p * w + w ≤ length xs) where
   pub row-length : length (row w xs p) ≡ w
   row-length = length-take-le w (drop (p * w) xs) (simp length-drop (omega arith))
-
-  -- a loop that reads the row into d: a turn, and the end
-  pub reads_more : (d out : List ℕ) (j : ℕ) → out ≡ filled d (row w xs p) j → length d ≡ w → j < w → set out j (get_or xs (p * w + j) 0) ≡ filled d (row w xs p) (j + 1)
-  reads_more d out j e l h =
-      rw (e, ← get_or-drop (p * w) xs j 0, ← get_or-take w (drop (p * w) xs) j 0 h)
-      (fills_more d (row w xs p) j 0 (omega arith) (omega (arith, row-length)))
-
-  pub reads_whole : (d out : List ℕ) (j : ℕ) → out ≡ filled d (row w xs p) j → length d ≡ w → w ≤ j → out ≡ row w xs p
-  reads_whole d out j e l h = e ∙ fills_whole d (row w xs p) j (omega arith) (omega (arith, row-length))
-
-  -- a loop that writes the row over by s: a turn
-  pub writes_more : (s out : List ℕ) (j : ℕ) → out ≡ paste xs (p * w) s j → length s ≡ w → j < w → set out (p * w + j) (get_or s j 0) ≡ paste xs (p * w) s (j + 1)
-  writes_more s out j e l h = rw (e, add-one) (paste-suc xs (p * w) s j 0 (omega arith) (omega arith))
-
-  -- and the end
-  pub writes_whole : (s out : List ℕ) (j : ℕ) → out ≡ paste xs (p * w) s j → j ≤ w → w ≤ j → out ≡ paste xs (p * w) s w
-  writes_whole s out j e h k = let n : j ≡ w = omega arith in rw n at e
 
 -- a part of a list written over by s: that part is s, and a part beside it is as it was
 module _ (d : List ℕ) (a w : ℕ) (s : List ℕ) (fits : a + w ≤ length d) (sized : length s ≡ w) where

@@ -1,24 +1,31 @@
--- Words past the last that is named; and a word that was made from a case stands for it.
-use Prim.Native.Nat.{ℕ, zero, suc}
-use native.Mathlib.Omega.{arith}
+-- The word that a case is made, and that it stands for it.
 use mathlib.Core.Path.{◌≡◌, refl}
 use mathlib.Core.Bool.{Bool, true, false}
+use mir.Val.{bool_byte}
+use denote.Enum.Declared.{tag_of}
+use Rattle.rules.specs.contracts.Priority.{the_type as priority}
+use Rattle.rules.specs.contracts.TaskState.{the_type as task_state}
 use Rattle.rules.specs.declared.Priority.{Priority}
 use Rattle.rules.specs.declared.Priority.TheVariants.{Back, Bypassable, Front}
 use Rattle.rules.specs.declared.TaskState.{TaskState}
 use Rattle.rules.specs.declared.TaskState.TheVariants.{Runnable, Blocked, Sleeping, Finished}
 use Rattle.words.specs.View.{state_of, state_word, kind_of, kind_word, marked, mark_word, is_state, is_kind, is_mark}
 
-pub past_two : (w : ℕ) → (w ≡ 0 → ⊥) → (w ≡ 1 → ⊥) → (w ≡ 2 → ⊥) → Finished ≡ state_of w
-past_two zero a b c = absurd (a refl)
-past_two (suc zero) a b c = absurd (b (omega arith))
-past_two (suc (suc zero)) a b c = absurd (c (omega arith))
-past_two (suc (suc (suc w))) a b c = refl
+-- what the code's own conversions give
+pub mark_as : (b : Bool) → bool_byte b ≡ mark_word b
+mark_as true = refl
+mark_as false = refl
 
-pub past_one : (w : ℕ) → (w ≡ 0 → ⊥) → (w ≡ 1 → ⊥) → Front ≡ kind_of w
-past_one zero a b = absurd (a refl)
-past_one (suc zero) a b = absurd (b (omega arith))
-past_one (suc (suc w)) a b = refl
+pub kind_as : (k : Priority) → tag_of priority k ≡ kind_word k
+kind_as Back = refl
+kind_as Bypassable = refl
+kind_as Front = refl
+
+pub state-as : (s : TaskState) → tag_of task_state s ≡ state_word s
+state-as Runnable = refl
+state-as Blocked = refl
+state-as Sleeping = refl
+state-as Finished = refl
 
 pub mark_back : (b : Bool) → marked (mark_word b) ≡ b
 mark_back true = refl

@@ -6,7 +6,7 @@ use borrow.Author.Tests.{eqb-true, eqb-false}
 use native.Mathlib.Omega.{arith}
 use mathlib.Core.Path.{◌≡◌, refl, sym, ap, ◌∙◌}
 use mathlib.Core.Bool.{Bool, true, false, not, ◌||◌}
-use mathlib.Core.List.{List, [], ◌∷◌}
+use mathlib.Core.List.{List}
 use lib.Dec.{eqb}
 use lib.ListN.{length, get_or, set}
 use lib.Seq.{paste, set_out}
@@ -20,7 +20,7 @@ use Rattle.records.specs.declared.Request.{Request}
 use Rattle.records.specs.declared.Marking.{Marking}
 use Rattle.records.specs.View.{seen, Stands, Changed, marking}
 use Rattle.records.proofs.Standing.{changed_seen}
-use Rattle.words.specs.View.{marked, mark_word, kind_word, request_words, decoded, encoded, slot_in, slots_of, altered, row_stands, SlotsStand, SlotsShow}
+use Rattle.words.specs.View.{marked, mark_word, request_words, decoded, encoded, slot_in, slots_of, altered, row_stands, SlotsStand, SlotsShow}
 use Rattle.words.proofs.Single.{mark_back, kind_back, mark_stands, kind_stands}
 
 -- ---- a row
@@ -130,10 +130,3 @@ mark_past w x m l = put_past w x.0 (option_map (marking m) (get_or (slots_of w) 
 
 pub freed : (w after : List ℕ) (x : Slot) (r : Request) → Stands r None → SlotsShow after w (set (slots_of w) x.0 (seen r)) → SlotsShow after w (set (slots_of w) x.0 None)
 freed w _ x r s p = record { view = p.view ∙ ap (λ (o : Option RequestRule). set (slots_of w) x.0 o) s.used; stand = p.stand }
-
--- the words that were made one by one
-pub encoded_by : (r : Request) (u k s q h d p : ℕ) → u ≡ mark_word r.used → k ≡ kind_word r.ask.kind → s ≡ mark_word r.ask.reserving
-    → q ≡ mark_word r.queued → h ≡ mark_word r.holding → d ≡ mark_word r.completed → p ≡ mark_word r.polled
-    → (u ∷ r.ask.asked ∷ r.ask.least ∷ k ∷ s ∷ r.task ∷ q ∷ h ∷ d ∷ p ∷ []) ≡ encoded r
-unfolding encoded
-encoded_by r u k s q h d p eu ek es eq eh ed ep = rw (eu, ek, es, eq, eh, ed, ep)

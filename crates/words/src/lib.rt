@@ -24,102 +24,40 @@ pub struct GrantWords {
 }
 
 // ---- single words
+// No `From`: the numbers are these words' own, and any past the last stands for the last.
 fn state_of(w: u32) -> TaskState
     ensures { result ≡ state_of w }
 {
-    if w == 0 {
-        return TaskState::Runnable;
-    }
-    if w == 1 {
-        return TaskState::Blocked;
-    }
-    if w == 2 {
-        return TaskState::Sleeping;
-    }
-    TaskState::Finished
-}
-
-fn state_word(s: TaskState) -> u32
-    ensures { result ≡ state_word s }
-{
-    match s {
-        TaskState::Runnable => 0,
-        TaskState::Blocked => 1,
-        TaskState::Sleeping => 2,
-        TaskState::Finished => 3,
+    match w {
+        0 => TaskState::Runnable,
+        1 => TaskState::Blocked,
+        2 => TaskState::Sleeping,
+        _ => TaskState::Finished,
     }
 }
 
 fn kind_of(w: u32) -> Priority
     ensures { result ≡ kind_of w }
 {
-    if w == 0 {
-        return Priority::Back;
+    match w {
+        0 => Priority::Back,
+        1 => Priority::Bypassable,
+        _ => Priority::Front,
     }
-    if w == 1 {
-        return Priority::Bypassable;
-    }
-    Priority::Front
-}
-
-fn kind_word(k: Priority) -> u32
-    ensures { result ≡ kind_word k }
-{
-    match k {
-        Priority::Back => 0,
-        Priority::Bypassable => 1,
-        Priority::Front => 2,
-    }
-}
-
-fn mark_word(b: bool) -> u32
-    ensures { result ≡ mark_word b }
-{
-    if b { 1 } else { 0 }
 }
 
 // ---- a request in ten words
-fn row_at(slots: &[u32], at: usize) -> [u32; 10]
-    requires { (at < slot_count) × (at * request_words + request_words ≤ length slots.now) }
-    ensures { result ≡ row request_words slots.now at }
-{
-    let base = at * 10;
-    let mut out = [0; 10];
-    let mut j: usize = 0;
-    while j < 10 {
-        let x = slots[base + j];
-        out[j] = x;
-        j += 1;
-    }
-    out
-}
-
-fn store_row(slots: &mut [u32], at: usize, words: [u32; 10])
-    requires { (at < slot_count) × (at * request_words + request_words ≤ length slots.old) }
-    ensures { slots.new ≡ paste slots.old (at * request_words) words request_words }
-{
-    let base = at * 10;
-    let mut j: usize = 0;
-    while j < 10 {
-        let x = words[j];
-        slots[base + j] = x;
-        j += 1;
-    }
-}
-
 fn request_of(w: [u32; 10]) -> Request
     ensures { result ≡ decoded w }
 {
-    let kind = kind_of(w[3]);
-    let ask = Ask {
-        asked: w[1],
-        least: w[2],
-        kind,
-        reserving: w[4] != 0,
-    };
     Request {
         used: w[0] != 0,
-        ask,
+        ask: Ask {
+            asked: w[1],
+            least: w[2],
+            kind: kind_of(w[3]),
+            reserving: w[4] != 0,
+        },
         task: w[5],
         queued: w[6] != 0,
         holding: w[7] != 0,
@@ -132,16 +70,17 @@ fn words_of(r: Request) -> [u32; 10]
     ensures { result ≡ encoded r }
 {
     let ask = r.ask;
-    let kind = ask.kind;
-    let used = mark_word(r.used);
-    let k = kind_word(kind);
-    let reserving = mark_word(ask.reserving);
-    let queued = mark_word(r.queued);
-    let holding = mark_word(r.holding);
-    let completed = mark_word(r.completed);
-    let polled = mark_word(r.polled);
     [
-        used, ask.asked, ask.least, k, reserving, r.task, queued, holding, completed, polled,
+        u32::from(r.used),
+        ask.asked,
+        ask.least,
+        ask.kind as u32,
+        u32::from(ask.reserving),
+        r.task,
+        u32::from(r.queued),
+        u32::from(r.holding),
+        u32::from(r.completed),
+        u32::from(r.polled),
     ]
 }
 
@@ -154,9 +93,7 @@ pub fn request_at(slots: &[u32], x: Slot) -> Request
     if 32 <= i {
         return Request::none();
     }
-    let w = row_at(slots, i);
-    let r = request_of(w);
-    r.used_or_none()
+    request_of(tables::row(slots, i)).used_or_none()
 }
 
 // The request of a slot is written; past the slots, nothing.
@@ -167,8 +104,7 @@ pub fn put_request(slots: &mut [u32], i: usize, r: Request)
     if 32 <= i {
         return;
     }
-    let w = words_of(r);
-    store_row(slots, i, w);
+    tables::store(slots, i, words_of(r));
 }
 
 // The marks of the request in a slot are changed; in a free one, and past the slots, nothing is.
@@ -180,10 +116,8 @@ pub fn mark(slots: &mut [u32], x: Slot, m: Marking)
     if 32 <= i {
         return;
     }
-    let w = row_at(slots, i);
-    let r = request_of(w);
-    let q = r.mark(m);
-    put_request(slots, i, q);
+    let r = request_of(tables::row(slots, i));
+    put_request(slots, i, r.mark(m));
 }
 
 // The slot is free.
@@ -191,9 +125,7 @@ pub fn free(slots: &mut [u32], x: Slot)
     requires { length slots.old ≡ slot_count * request_words }
     ensures { SlotsShow slots.new slots.old (set (slots_of slots.old) x.0 None) }
 {
-    let i = x.0 as usize;
-    let r = Request::none();
-    put_request(slots, i, r);
+    put_request(slots, x.0 as usize, Request::none());
 }
 
 // The lowest slot that is free; 32 where none is.
@@ -201,14 +133,12 @@ pub fn lowest_free(slots: &[u32]) -> usize
     requires { length slots.now ≡ slot_count * request_words }
     ensures { result ≡ lowest_free (slots_of slots.now) }
 {
-    let mut i: usize = 0;
-    while i < 32 {
+    for i in 0..32 {
         if slots[i * 10] == 0 {
             return i;
         }
-        i += 1;
     }
-    i
+    32
 }
 
 // ---- a task in two words
@@ -221,11 +151,10 @@ pub fn task_at(tasks: &[u32], count: u32, t: u32) -> Task
     if count <= t {
         return Task::none();
     }
-    let b = 2 * i;
-    let w = tasks[b];
-    let state = state_of(w);
-    let woken = tasks[b + 1] != 0;
-    Task { state, woken }
+    Task {
+        state: state_of(tasks[2 * i]),
+        woken: tasks[2 * i + 1] != 0,
+    }
 }
 
 // The task's words are written; past the last, nothing.
@@ -237,12 +166,9 @@ pub fn put_task(tasks: &mut [u32], count: u32, t: u32, a: Task)
     if count <= t {
         return;
     }
-    let state = a.state;
-    let w = state_word(state);
-    let m = mark_word(a.woken);
     let b = 2 * i;
-    tasks[b] = w;
-    tasks[b + 1] = m;
+    tasks[b] = a.state as u32;
+    tasks[b + 1] = u32::from(a.woken);
 }
 
 // Whether the task of a number is finished.
@@ -250,8 +176,7 @@ pub fn finished(tasks: &[u32], count: u32, t: u32) -> bool
     requires { (count ≤ max_tasks) × (length tasks.now ≡ max_tasks * task_words) }
     ensures { result ≡ is_finished (get_or (tasks_of count tasks.now) t no_task).state }
 {
-    let a = task_at(tasks, count, t);
-    a.finished()
+    task_at(tasks, count, t).finished()
 }
 
 // The task is unblocked and woken.
@@ -260,8 +185,7 @@ pub fn rouse(tasks: &mut [u32], count: u32, t: u32)
     ensures { TasksShow count tasks.new tasks.old (set (tasks_of count tasks.old) t (wakened (unblocked (get_or (tasks_of count tasks.old) t no_task)))) }
 {
     let a = task_at(tasks, count, t);
-    let b = a.unblock();
-    put_task(tasks, count, t, b.wake());
+    put_task(tasks, count, t, a.unblock().wake());
 }
 
 // ---- a grant in three words
@@ -306,8 +230,9 @@ pub fn grant_at(grants: &[u32], i: usize) -> GrantWords
     ensures { result ≡ grant_words_in grants.now i }
 {
     let b = 3 * i;
-    let taker = grants[b];
-    let count = grants[b + 1];
-    let task = grants[b + 2];
-    GrantWords { taker, count, task }
+    GrantWords {
+        taker: grants[b],
+        count: grants[b + 1],
+        task: grants[b + 2],
+    }
 }

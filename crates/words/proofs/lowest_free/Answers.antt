@@ -1,3 +1,4 @@
+-- Found at the first that is free; or all were passed.
 use borrow.Author.Rules.{rules}
 use Rattle.words.proofs.Lowest.{free_here, used_here, none_free}
 use Rattle.words.proofs.lowest_free.Goals as goal

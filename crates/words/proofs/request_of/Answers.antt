@@ -4,4 +4,4 @@ use Rattle.words.proofs.request_of.Goals as goal
 
 pub returns : goal.returns
 unfolding decoded
-returns c = rw c.kind_of-kind.ensures
+returns c = rw c.kind_of.ensures

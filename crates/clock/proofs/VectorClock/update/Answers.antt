@@ -1,13 +1,9 @@
-use mathlib.Core.Path.{refl}
 use borrow.Author.Rules.{rules}
 use Rattle.clock.proofs.Joining.{joins_more, joins_whole}
 use Rattle.clock.proofs.VectorClock.update.Goals as goal
 
-pub loop-i-init : goal.loop-i-init
-loop-i-init c = (search rules, search rules, refl)
-
 pub loop-i-preserved : goal.loop-i-preserved
-loop-i-preserved c = (search rules, search rules, search (joins_more, rules))
+loop-i-preserved c = search (joins_more, rules)
 
 pub returns : goal.returns
 returns c = search (joins_whole, rules)

@@ -1,15 +1,8 @@
 -- A join, an entry a turn: after i turns the first i entries are those of the join, the others as in the first clock.
-use Prim.Native.Nat.{◌≤◌, ◌-◌}
 use mathlib.Core.Path.{◌≡◌}
-use lib.ListN.{length}
-use Rattle.rules.specs.Sizes.{width}
 use Rattle.rules.specs.Clock.{join}
 use Rattle.tables.proofs.Filling.{filled}
 use Rattle.clock.proofs.VectorClock.update.Given as goal
 
 abbrev pub invariant-loop-i : goal.invariant-loop-i
-invariant-loop-i l =
-    (l.i ≤ width) × (length l.out.0 ≡ width) × (l.out.0 ≡ filled l.self.0 (join l.self.0 l.other.0) l.i)
-
-abbrev pub decreases-loop-i : goal.decreases-loop-i
-decreases-loop-i l = width - l.i
+invariant-loop-i l = l.out.0 ≡ filled l.self.0 (join l.self.0 l.other.0) l.i
