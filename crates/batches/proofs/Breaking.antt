@@ -1,11 +1,13 @@
 -- When batches are broken, by what the ring and the sizes hold; and what batches that are not broken give to a caller.
-use Rattle.std.specs.Prelude.{Option}
+use Rattle.std.specs.Prelude.{Option, None, Some}
+use Rattle.std.specs.Option.{ForSome, option_map_or}
 use Prim.Native.Nat.{ℕ, ◌≤◌, ◌<◌}
-use mathlib.Core.Path.{◌≡◌, subst}
+use mathlib.Core.Logic.{◌⊎◌, inl, inr}
+use mathlib.Core.Path.{◌≡◌, refl, subst}
 use mathlib.Core.Bool.{Bool, true, false, not, ◌||◌, not-not}
 use mathlib.Core.List.{List}
 use borrow.Author.Tests.{lt-ltb, le-ltb, le-leb, lt-leb, leb-false, ltb-false, eqb-true, not-false}
-use lib.Dec.{ltb, eqb}
+use lib.Dec.{leb, ltb, eqb}
 use lib.ListN.{length}
 use Rattle.rules.specs.Sizes.{batch_count}
 use Rattle.rules.specs.Clock.{Clock}
@@ -13,8 +15,9 @@ use Rattle.rules.specs.State.{Batch, Permits}
 use Rattle.rules.specs.Broken.{any_of, set_up_batches, is_empty_batch, total, differs}
 use Rattle.rules.specs.Sound.{SoundPermits}
 use Rattle.rules.proofs.Bools.{neither}
+use Rattle.batches.specs.declared.PermitClocks.{PermitClocks}
 use Rattle.batches.specs.declared.Batches.{Batches}
-use Rattle.batches.specs.View.{ring_of, batches_of, set_up_if, WellFormed}
+use Rattle.batches.specs.View.{ring_of, batches_of, InRange, WellFormed}
 use Rattle.batches.specs.Broken.{permits_of, head_beyond, bad_batches, broken_batches}
 use Rattle.batches.proofs.Rings.{ring-length}
 
@@ -23,25 +26,30 @@ module _ (b : Batches) (k : ℕ) (sizes : List ℕ) where
   abbrev is_broken_lem : Bool → Type 0
   is_broken_lem r = (rows : List ℕ) (c : Clock) → r ≡ broken_batches b (permits_of k b sizes rows c)
 
-  pub not-set_up : b.ready ≡ false → is_broken_lem false
-  unfolding broken_batches set_up_if any_of
+  pub not-set_up : b.permit_clocks ≡ None → is_broken_lem false
+  unfolding broken_batches any_of
   not-set_up r rows c = rw r
 
-  module _ (r : b.ready ≡ true) where
-    pub head-beyond : batch_count ≤ b.permit_clocks.head → is_broken_lem true
+  module _ (q : PermitClocks) (r : b.permit_clocks ≡ Some q) where
+    pub beyond : (u : Bool) → u ≡ true → (batch_count ≤ q.head) ⊎ ((q.head < batch_count) × (batch_count < q.count)) → is_broken_lem u
     unfolding broken_batches
-    head-beyond h rows c = rw (r, le-leb batch_count b.permit_clocks.head h)
+    beyond u t (inl h) rows c = rw (t, r, le-leb batch_count q.head h)
+    beyond u t (inr (h, n)) rows c = rw (t, r, lt-leb batch_count q.head h, ring-length, lt-ltb batch_count q.count n)
 
-    pub count-beyond : b.permit_clocks.head < batch_count → batch_count < b.permit_clocks.count → is_broken_lem true
-    unfolding broken_batches set_up_if
-    count-beyond h n rows c = rw (r, lt-leb batch_count b.permit_clocks.head h, ring-length, lt-ltb batch_count b.permit_clocks.count n)
-
-    pub not-adding_up : (u : Bool) → b.permit_clocks.head < batch_count → b.permit_clocks.count ≤ batch_count
-        → ((rows : List ℕ) → let bs = batches_of (ring_of b.permit_clocks sizes rows) in u ≡ not (any_of is_empty_batch bs || not (eqb (total bs) k)))
+    pub not-adding_up : (u : Bool) → q.head < batch_count → q.count ≤ batch_count
+        → ((rows : List ℕ) → let bs = batches_of (ring_of q sizes rows) in u ≡ not (any_of is_empty_batch bs || not (eqb (total bs) k)))
         → is_broken_lem (not u)
-    unfolding broken_batches set_up_if
+    unfolding broken_batches
     not-adding_up u h n e rows c =
-        rw (e rows, not-not, r, lt-leb batch_count b.permit_clocks.head h, ring-length, le-ltb batch_count b.permit_clocks.count n)
+        rw (e rows, not-not, r, lt-leb batch_count q.head h, ring-length, le-ltb batch_count q.count n)
+
+-- a ring within its places has its head there
+pub within_places : (b : Batches) → WellFormed b → head_beyond b ≡ false
+within_places b f = by_ring b.permit_clocks f
+  where
+    by_ring : (o : Option PermitClocks) → ForSome o (λ (q : PermitClocks). InRange q.head q.count) → option_map_or (λ (q : PermitClocks). leb batch_count q.head) o false ≡ false
+    by_ring None g = refl
+    by_ring (Some q) g = lt-leb batch_count q.head (g q refl).head
 
 -- the clauses of batches that are not bad
 record Good (v : Permits) : Type 0 where
@@ -72,11 +80,10 @@ module _ (b : Batches) (k : ℕ) (sizes rows : List ℕ) (c : Clock) (sound : br
   parts = neither (head_beyond b) (bad_batches (permits_of k b sizes rows c)) sound
 
   pub unbroken-formed : WellFormed b
-  unfolding set_up_if
-  unbroken-formed r =
+  unbroken-formed q r =
       record {
-        head = leb-false batch_count b.permit_clocks.head (rw r at parts.0);
-        count = ltb-false batch_count b.permit_clocks.count (rw (r, ring-length) at (good (permits_of k b sizes rows c) parts.1).few);
+        head = leb-false batch_count q.head (rw r at parts.0);
+        count = ltb-false batch_count q.count (rw (r, ring-length) at (good (permits_of k b sizes rows c) parts.1).few);
       }
 
   pub unbroken_adds_up : SoundPermits (permits_of k b sizes rows c)

@@ -46,10 +46,7 @@ pub record Turn (out : Ring) (acc : VectorClock) (left : ℕ) (m : Meal) : Type 
 
 module _ (out : Ring) (acc : VectorClock) (left : ℕ) (m : Meal) (t : Turn out acc left m) where
   -- a turn at a front batch that is larger than what is left, and at one that is not
-  module _ (c next : VectorClock) (hungry : 0 < left) (stands : out.count ≡ 0 → ⊥) (is_front : c.0 ≡ row width out.rows out.head) (joins : next.0 ≡ join acc.0 c.0) where
-    some_left : 0 < out.count
-    some_left = omega arith
-
+  module _ (c next : VectorClock) (hungry : 0 < left) (some_left : 0 < out.count) (is_front : c.0 ≡ row width out.rows out.head) (joins : next.0 ≡ join acc.0 c.0) where
     abbrev front_batch : Batch
     front_batch = batch_at width out.sizes out.rows out.head
 
@@ -99,8 +96,9 @@ module _ (out : Ring) (acc : VectorClock) (left : ℕ) (m : Meal) (t : Turn out 
   pub nothing_left : left ≤ 0 → Ate out acc m
   nothing_left z = meal_made (sym (eat-nothing (batches_of out) left acc.0 (omega arith)) ∙ t.meal)
 
-  pub no_batch : out.count ≡ 0 → Ate out acc m
+  pub no_batch : out.count ≤ 0 → Ate out acc m
   unfolding ring
-  no_batch z =
+  no_batch l =
+      let z : out.count ≡ 0 = omega arith in
       let n : batches_of out ≡ [] = rw z in
       meal_made (rw n (sym (eat_none left acc.0) ∙ (rw n at t.meal)))

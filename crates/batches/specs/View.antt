@@ -1,5 +1,6 @@
 -- What the ring by value and the lent arrays stand for in the rules, and what contracts say of a result.
-use Rattle.std.specs.Prelude.{ℕ, zero, suc, ◌*◌, ◌%◌, ◌≤◌, ◌<◌, ◌≡◌, Bool, true, false, List, [], ◌∷◌, length, get_or, Option, None, Some}
+use Rattle.std.specs.Prelude.{ℕ, zero, suc, ◌*◌, ◌%◌, ◌≤◌, ◌<◌, ◌≡◌, List, [], ◌∷◌, length, get_or, Option, Some, option_map}
+use Rattle.std.specs.Option.{ForSome}
 use Rattle.rules.specs.Sizes.{batch_count, width}
 use Rattle.rules.specs.State.{Batch}
 use Rattle.rules.specs.Taking.{Meal}
@@ -31,13 +32,9 @@ ring_of b sizes rows = record { sizes = sizes; rows = rows; head = b.head; count
 abbrev pub batches_of : Ring → List Batch
 batches_of b = ring (batch_at width b.sizes b.rows) batch_count b.head b.count
 
--- Not set up, the ring is no part of the state.
-unfoldable pub set_up_if : Bool → List Batch → Option (List Batch)
-set_up_if true bs = Some bs
-set_up_if false bs = None
-
+-- the batches, if they are set up
 abbrev pub stands_in : Batches → List ℕ → List ℕ → Option (List Batch)
-stands_in b sizes rows = set_up_if b.ready (batches_of (ring_of b.permit_clocks sizes rows))
+stands_in b sizes rows = option_map (λ (q : PermitClocks). batches_of (ring_of q sizes rows)) b.permit_clocks
 
 -- arrays of the ring's size
 pub record Lent (sizes rows : List ℕ) : Type 0 where
@@ -51,7 +48,7 @@ pub record InRange (h n : ℕ) : Type 0 where
 
 -- Set up, the ring is within its places.
 abbrev pub WellFormed : Batches → Type 0
-WellFormed b = b.ready ≡ true → InRange b.permit_clocks.head b.permit_clocks.count
+WellFormed b = ForSome b.permit_clocks (λ (q : PermitClocks). InRange q.head q.count)
 
 -- a ring that holds some batches
 pub record Holds (b : Ring) (bs : List Batch) : Type 0 where
@@ -65,8 +62,8 @@ pub record Ate (b : Ring) (c : VectorClock) (m : Meal) : Type 0 where
 
 -- set up, and these batches stand
 pub record Stood (b : Batches) (sizes rows : List ℕ) (bs : List Batch) : Type 0 where
-  pub ready : b.ready ≡ true
-  pub holds : Holds (ring_of b.permit_clocks sizes rows) bs
+  pub formed : WellFormed b
+  pub view : stands_in b sizes rows ≡ Some bs
 
 -- the batches and the clock after a meal
 pub record Fed (r : Eaten) (sizes rows : List ℕ) (m : Meal) : Type 0 where

@@ -2,7 +2,7 @@
 // and the clock of the last taking in arrays that the caller lends.
 #![tactic(auto)]
 
-ghost use Rattle.std.specs.Prelude.{◌≡◌, false, not, ◌||◌, List, ◌∷◌, [], ◌++◌, ℕ, ◌+◌, ◌*◌, ◌≤◌, ◌<◌, eqb, length};
+ghost use Rattle.std.specs.Prelude.{◌≡◌, false, not, ◌||◌, List, ◌∷◌, [], ◌++◌, ℕ, ◌+◌, ◌*◌, ◌≤◌, ◌<◌, eqb, length, None};
 ghost use Rattle.std.proofs.Math.Seq.{paste};
 ghost use Rattle.rules.specs.Sizes.{batch_count, width};
 ghost use Rattle.rules.specs.Clock.{Clock, empty, join};
@@ -23,11 +23,10 @@ pub struct PermitClocks {
     pub count: u32,
 }
 
-// Set up or not; not set up, the ring is no part of the state.
+// Set up or not.
 #[derive(Clone, Copy)]
 pub struct Batches {
-    pub ready: bool,
-    pub permit_clocks: PermitClocks,
+    pub permit_clocks: Option<PermitClocks>,
 }
 
 // The ring that is left, and the join of the clocks of the batches touched.
@@ -87,28 +86,20 @@ impl PermitClocks {
         let place = ((out.head + out.count) % PermitClocks::PLACES) as usize;
         sizes[place] = size;
         store_clock(rows, place, clock);
-        out.count = out.count + 1;
+        out.count += 1;
         out
     }
 
-    // The ring anew, whatever it held: one batch with the clock, unless it is of nothing.
-    fn restart(
-        self,
-        sizes: &mut [u32],
-        rows: &mut [u32],
-        size: u32,
-        clock: VectorClock,
-    ) -> PermitClocks
+    // A ring of one batch with the clock, unless it is of nothing.
+    fn first(sizes: &mut [u32], rows: &mut [u32], size: u32, clock: VectorClock) -> PermitClocks
         requires { Lent sizes.old rows.old }
         ensures { Holds (ring_of result sizes.new rows.new) (first_batch size clock.0) }
     {
-        let mut out = self;
-        out.head = 0;
-        out.count = 0;
+        let none = PermitClocks { head: 0, count: 0 };
         if size == 0 {
-            return out;
+            return none;
         }
-        out.push_back(sizes, rows, size, clock)
+        none.push_back(sizes, rows, size, clock)
     }
 
     // The front batches that hold n permits are consumed, the last of them in part; their clocks are joined.
@@ -119,22 +110,17 @@ impl PermitClocks {
         let mut out = self;
         let mut acc = VectorClock::new();
         let mut left = n;
-        while 0 < left {
-            let count = out.count;
-            if count == 0 {
-                break;
-            }
+        while 0 < left && 0 < out.count {
             let head = out.head as usize;
             let size = sizes[head];
-            let clock = clock_at(rows, head);
-            acc = acc.update(clock);
+            acc = acc.update(clock_at(rows, head));
             if left < size {
                 sizes[head] = size - left;
                 left = 0;
             } else {
                 left -= size;
                 out.head = (out.head + 1) % PermitClocks::PLACES;
-                out.count = count - 1;
+                out.count -= 1;
             }
         }
         Consumed {
@@ -149,15 +135,12 @@ impl PermitClocks {
         ensures { (rows : List ℕ) → result ≡ not (any_of is_empty_batch (batches_of (ring_of self sizes.now rows)) || not (eqb (total (batches_of (ring_of self sizes.now rows))) n)) }
     {
         let mut sum: u64 = 0;
-        let mut i: u32 = 0;
-        while i < self.count {
-            let place = ((self.head + i) % PermitClocks::PLACES) as usize;
-            let size = sizes[place];
+        for i in 0..self.count {
+            let size = sizes[((self.head + i) % PermitClocks::PLACES) as usize];
             if size == 0 {
                 return false;
             }
             sum += size as u64;
-            i += 1;
         }
         sum == n as u64
     }
@@ -169,22 +152,17 @@ impl Batches {
         requires { Lent sizes.old rows.old }
         ensures { Stood result sizes.new rows.new (first_batch stock clock.0) }
     {
-        let none = PermitClocks { head: 0, count: 0 };
-        let permit_clocks = none.restart(sizes, rows, stock, clock);
         Batches {
-            ready: true,
-            permit_clocks,
+            permit_clocks: Some(PermitClocks::first(sizes, rows, stock, clock)),
         }
     }
 
     // The batches of a semaphore that no task makes: not set up.
     pub fn const_new() -> Batches
-        ensures { result.ready ≡ false }
+        ensures { result.permit_clocks ≡ None }
     {
-        let permit_clocks = PermitClocks { head: 0, count: 0 };
         Batches {
-            ready: false,
-            permit_clocks,
+            permit_clocks: None,
         }
     }
 
@@ -192,10 +170,10 @@ impl Batches {
     pub fn is_full(self) -> bool
         ensures { (sizes rows : List ℕ) → result ≡ full (stands_in self sizes rows) }
     {
-        if self.ready {
-            return PermitClocks::PLACES <= self.permit_clocks.count;
+        match self.permit_clocks {
+            None => false,
+            Some(ring) => PermitClocks::PLACES <= ring.count,
         }
-        false
     }
 
     // Whether refusal 14 has a ground here, whatever the fields and the sizes are.
@@ -203,32 +181,24 @@ impl Batches {
         requires { length sizes.now ≡ batch_count }
         ensures { (rows : List ℕ) (c : Clock) → result ≡ broken_batches self (permits_of stock self sizes.now rows c) }
     {
-        if self.ready {
-            let ring = self.permit_clocks;
-            if PermitClocks::PLACES <= ring.head {
-                return true;
+        match self.permit_clocks {
+            None => false,
+            Some(ring) => {
+                PermitClocks::PLACES <= ring.head
+                    || PermitClocks::PLACES < ring.count
+                    || !ring.adds_up(sizes, stock)
             }
-            if PermitClocks::PLACES < ring.count {
-                return true;
-            }
-            return !ring.adds_up(sizes, stock);
         }
-        false
     }
 
-    // Setting up: one batch of the whole stock with the empty clock, if the stock is positive.
-    fn set_up(self, sizes: &mut [u32], rows: &mut [u32], stock: u32) -> Batches
+    // The ring, set up if it was not: one batch of the whole stock with the empty clock, if the stock is positive.
+    fn set_up(self, sizes: &mut [u32], rows: &mut [u32], stock: u32) -> PermitClocks
         requires { (Lent sizes.old rows.old) × (WellFormed self) }
-        ensures { Stood result sizes.new rows.new (standing_of stock (stands_in self sizes.old rows.old)) }
+        ensures { Holds (ring_of result sizes.new rows.new) (standing_of stock (stands_in self sizes.old rows.old)) }
     {
-        if self.ready {
-            return self;
-        }
-        let stale = self.permit_clocks;
-        let fresh = stale.restart(sizes, rows, stock, VectorClock::new());
-        Batches {
-            ready: true,
-            permit_clocks: fresh,
+        match self.permit_clocks {
+            None => PermitClocks::first(sizes, rows, stock, VectorClock::new()),
+            Some(ring) => ring,
         }
     }
 
@@ -237,16 +207,14 @@ impl Batches {
         requires { (Lent sizes.old rows.old) × (WellFormed self) }
         ensures { Fed result sizes.new rows.new (eat (standing_of stock (stands_in self sizes.old rows.old)) n (empty width)) }
     {
-        let stood = self.set_up(sizes, rows, stock);
-        let standing = stood.permit_clocks;
-        let consumed = standing.consume(sizes, rows, n);
-        let permit_clocks = consumed.permit_clocks;
-        let clock = consumed.clock;
-        let batches = Batches {
-            ready: true,
-            permit_clocks,
-        };
-        Eaten { batches, clock }
+        let ring = self.set_up(sizes, rows, stock);
+        let consumed = ring.consume(sizes, rows, n);
+        Eaten {
+            batches: Batches {
+                permit_clocks: Some(consumed.permit_clocks),
+            },
+            clock: consumed.clock,
+        }
     }
 
     // Set up, and a batch more.
@@ -261,12 +229,9 @@ impl Batches {
         requires { (Lent sizes.old rows.old) × (WellFormed self) × (full (stands_in self sizes.old rows.old) ≡ false) }
         ensures { Stood result sizes.new rows.new (standing_of stock (stands_in self sizes.old rows.old) ++ record { size = n; clock = clock.0 } ∷ []) }
     {
-        let stood = self.set_up(sizes, rows, stock);
-        let standing = stood.permit_clocks;
-        let more = standing.push_back(sizes, rows, n, clock);
+        let ring = self.set_up(sizes, rows, stock);
         Batches {
-            ready: true,
-            permit_clocks: more,
+            permit_clocks: Some(ring.push_back(sizes, rows, n, clock)),
         }
     }
 

@@ -14,7 +14,7 @@ use Rattle.rules.specs.Sizes.{max_tasks, slot_count, batch_count, width}
 use Rattle.rules.specs.Clock.{Clock}
 use Rattle.rules.specs.State.{Permits}
 use Rattle.rules.specs.Broken.{any_of, broken}
-use Rattle.rules.proofs.Bools.{neither, ◌nor◌, not_both, is_not-not}
+use Rattle.rules.proofs.Bools.{neither, ◌nor◌, is_not-not}
 use Rattle.rules.proofs.Queues.{slot_fails, no_slot}
 use Rattle.rules.proofs.Soundness.{unbroken-sound, sound-unbroken}
 use Rattle.splitting.specs.Plain.{Plain}
@@ -25,7 +25,7 @@ use Rattle.tables.specs.Table.{row, table}
 use Rattle.words.specs.View.{request_words, row_stands, task_stands, SlotsStand}
 use Rattle.words.proofs.Slots.{length-slots}
 use Rattle.batches.specs.Broken.{permits_of, head_beyond, bad_batches, broken_batches}
-use Rattle.batches.proofs.Breaking.{unbroken-formed}
+use Rattle.batches.proofs.Breaking.{unbroken-formed, within_places}
 use Rattle.state.specs.declared.BatchSemaphore.{BatchSemaphore}
 use Rattle.state.specs.View.{Words, plain_in, view_of, Fit}
 use Rattle.state.proofs.Viewing.{forget-view}
@@ -132,7 +132,7 @@ module _ (s : BatchSemaphore) (w : Words) (gs : List ℕ) where
       (record { slots = h.slot-words; tasks = h.task-words; sizes = a.ring.places; rows = a.ring.entries; latest = a.latest; makers = a.makers; clocks = a.clocks; grants = f.grants })
       nor (le-ltb max_tasks s.head.tasks h.tasks
       nor le-ltb slot_count s.head.waiters.len h.waiters
-      nor not_both s.batches.ready _ (λ r. lt-leb batch_count s.batches.permit_clocks.head (a.formed r).head))
+      nor within_places s.batches a.formed)
       nor no_slot (λ x. not (row_stands (row request_words w.slots x.0))) slot_count 0 (λ x. is_not-not _ (h.slots-stand x.0))
       nor so_all (task_stands w.tasks) s.head.tasks 0 (λ k l. h.tasks-stand k (omega arith)))
       nor sound-unbroken (view_of s w) f.sound

@@ -1,12 +1,12 @@
--- Words that are all 0: the loop that clears them, and what they stand for.
+-- Words that are all 0, and what they stand for.
 use Rattle.std.specs.Prelude.{None}
-use Prim.Native.Nat.{ℕ, zero, suc, ◌+◌, ◌*◌, ◌≤◌, ◌<◌}
+use Prim.Native.Nat.{ℕ, zero, suc, ◌+◌, ◌*◌, ◌-◌, ◌≤◌, ◌<◌}
 use native.Mathlib.Decide.{dec_lt}
 use native.Mathlib.Omega.{arith}
 use mathlib.Core.Path.{◌≡◌, refl, sym, ◌∙◌}
 use mathlib.Core.List.{List}
-use lib.ListN.{length, get_or, set, drop, replicate, length-set, length-take, get_or-replicate, get_or-eq_default}
-use lib.Seq.{get_or-set_same, get_or-set_other, get_or-take, get_or-drop, ext_get_or}
+use lib.ListN.{length, get_or, drop, replicate, length-take, get_or-replicate, get_or-eq_default}
+use lib.Seq.{get_or-take, get_or-drop, ext_get_or}
 use Rattle.rules.specs.Sizes.{width, slot_count}
 use Rattle.rules.specs.Clock.{empty}
 use Rattle.splitting.specs.Plain.{no_task}
@@ -15,40 +15,18 @@ use Rattle.tables.proofs.Rows.{row-length}
 use Rattle.words.specs.View.{request_words, decoded, slot_in, slots_of, row_stands, SlotsStand, task_in, tasks_of, TasksStand}
 use Rattle.fresh.specs.Starting.{Cleared}
 
--- of n words, as many as ys has, the first i are 0
-pub record Clearing (xs ys : List ℕ) (n i : ℕ) : Type 0 where
-  pub sized : length xs ≡ n
-  pub kept : length xs ≡ length ys
-  pub passed : i ≤ n
-  pub cleared : (k : ℕ) → k < i → get_or xs k 0 ≡ 0
-
-pub clears_none : (xs : List ℕ) (n : ℕ) → length xs ≡ n → Clearing xs xs n 0
-clears_none xs n e = record { sized = e; kept = refl; passed = omega arith; cleared = λ k l. absurd (omega arith) }
-
-module _ (xs ys : List ℕ) (n i : ℕ) (c : Clearing xs ys n i) where
-  pub clears_more : i < n → Clearing (set xs i 0) ys n (i + 1)
-  clears_more h =
-      record {
-        sized = rw length-set c.sized;
-        kept = rw length-set c.kept;
-        passed = omega arith;
-        cleared = λ k l. elim (dec_lt k i) [
-          | yes b ↦ get_or-set_other xs i k 0 0 (omega arith) ∙ c.cleared k b
-          | no b ↦
-              let e : k ≡ i = omega arith in
-              rw e (get_or-set_same xs i 0 0 (omega (arith, c.sized)))
-        ];
-      }
-
-  pub clears_all : n ≤ i → Cleared xs ys
-  clears_all h =
-      record {
-        sized = c.kept;
-        zeros = λ k. elim (dec_lt k i) [
-          | yes b ↦ c.cleared k b
-          | no b ↦ get_or-eq_default xs 0 (omega (arith, c.sized))
-        ];
-      }
+-- what `fill` ensures: each word below the last is 0, and the last
+pub filled : (xs ys : List ℕ) → length xs ≡ length ys → ((k d : ℕ) → 0 ≤ k → k < length ys - 1 → get_or xs k d ≡ 0) → (0 < length ys → (d : ℕ) → get_or xs (length ys - 1) d ≡ 0) → Cleared xs ys
+filled xs ys sized below last = record { sized = sized; zeros = λ k. at_place k }
+  where
+    at_place : (k : ℕ) → get_or xs k 0 ≡ 0
+    at_place k = elim (dec_lt k (length ys - 1)) [
+      | yes l ↦ below k 0 (omega arith) l
+      | no l ↦ elim (dec_lt k (length ys)) [
+        | yes m ↦ let e : k ≡ length ys - 1 = omega arith in rw e (last (omega arith) 0)
+        | no m ↦ get_or-eq_default xs 0 (omega arith)
+      ]
+    ]
 
 -- a table of nothing but one thing
 table_same : {A : Type 0} (f : ℕ → A) (a : A) → ((k : ℕ) → f k ≡ a) → (n i : ℕ) → table f i n ≡ replicate n a

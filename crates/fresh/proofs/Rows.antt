@@ -1,4 +1,4 @@
--- Rows of starting clocks: one clock filled entry by entry, and the clocks made row by row.
+-- Rows of starting clocks, and the clocks made row by row.
 use mir.Syntax.{w64}
 use mir.Val.{Fits}
 use Prim.Native.Nat.{ℕ, suc, ◌+◌, ◌-◌, ◌*◌, ◌≤◌, ◌<◌}
@@ -7,8 +7,9 @@ use native.Mathlib.Numerals.{add-one}
 use native.Mathlib.Omega.{arith}
 use mathlib.Core.Path.{◌≡◌, sym, ◌∙◌}
 use mathlib.Core.List.{List, [], ◌∷◌, ◌++◌, append_assoc, append-nil}
-use lib.ListN.{length, get_or, set, take, drop, replicate, length-drop}
-use lib.Seq.{take-suc, take-suc-set, get_or-drop, drop-drop, set_at, length-take-le}
+use Rattle.std.proofs.lemmas.List.{drop-replicate}
+use lib.ListN.{length, set, take, drop, replicate}
+use lib.Seq.{take-suc-set, drop-drop}
 use Rattle.rules.specs.Sizes.{width, max_tasks}
 use Rattle.rules.specs.Clock.{empty}
 use Rattle.splitting.specs.Asking.{fresh_clocks}
@@ -17,21 +18,12 @@ use Rattle.times.specs.View.{clocks_at}
 use Rattle.times.proofs.Clocks.{clocks-length}
 use Rattle.fresh.specs.Starting.{Heard}
 
--- one entry more of a row, over a clock that was empty from there on
-pub entry_more : (l : List ℕ) (base j w : ℕ) → base + j < length l → j < w
-    → set (take j (drop base l) ++ empty (w - j)) j (get_or l (base + j) 0) ≡ take (j + 1) (drop base l) ++ empty (w - (j + 1))
+-- a row, and nothing behind it
+pub row_padded : (l part : List ℕ) (base n : ℕ) → part ≡ take (base + n - base) (drop base l) → part ++ drop n (replicate width 0) ≡ take n (drop base l) ++ empty (width - n)
 unfolding empty
-entry_more l base j w h k =
-    let e : w - j ≡ suc (w - (j + 1)) = omega arith in
-    let n : j < length (drop base l) = simp length-drop (omega arith) in
-    rw (
-      e,
-      set_at (take j (drop base l)) 0 (replicate (w - (j + 1)) 0) (get_or l (base + j) 0) j (length-take-le j (drop base l) (omega arith)),
-      add-one,
-      take-suc (drop base l) j 0 n,
-      get_or-drop base l j 0,
-      append_assoc (take j (drop base l)) (get_or l (base + j) 0 ∷ []) (replicate (w - suc j) 0),
-    )
+row_padded l part base n e =
+    let z : base + n - base ≡ n = omega arith in
+    rw (e, z, drop-replicate)
 
 -- a row lies within the rows
 pub row_within : (n i : ℕ) → i < n → i * n + n ≤ n * n

@@ -3,7 +3,7 @@ use Rattle.std.specs.Prelude.{Option, None, Some, is_some}
 use Prim.Native.Nat.{ℕ, zero, suc, ◌*◌, ◌≤◌, ◌<◌}
 use native.Mathlib.Omega.{arith}
 use mathlib.Core.Path.{◌≡◌, refl, sym, ap, ◌∙◌}
-use mathlib.Core.Bool.{Bool, true, false, ◌||◌, or-false, false≢true}
+use mathlib.Core.Bool.{Bool, true, false, ◌||◌, or-false}
 use mathlib.Core.List.{List, [], ◌∷◌, map}
 use borrow.Author.Tests.{ltb-false, leb-false, eqb-true, not-false}
 use lib.Dec.{ltb, eqb}
@@ -33,8 +33,8 @@ use Rattle.words.specs.View.{request_words, task_words}
 use Rattle.head.specs.declared.Head.{Head}
 use Rattle.head.specs.View.{plain_of, Shaped, Shows}
 use Rattle.batches.specs.declared.Batches.{Batches}
-use Rattle.batches.specs.View.{Lent, WellFormed, set_up_if, stands_in, Stood}
-use Rattle.batches.proofs.Setting.{stood-view, stood-formed}
+use Rattle.batches.specs.View.{Lent, WellFormed, stands_in, Stood}
+use Rattle.std.proofs.lemmas.Option.{none-some}
 use Rattle.times.specs.View.{clocks_at, clock_in, kept_of}
 use Rattle.state.specs.View.{Words, view_of, ShapedAll}
 use Rattle.fresh.specs.declared.Started.{Started}
@@ -60,15 +60,14 @@ who_starts h f b k n slots tasks slots₀ tasks₀ i few ls lt cs ct =
     }
 
 -- when: not set up, and set up by a task
-unready_formed : (b : Batches) → b.ready ≡ false → WellFormed b
-unready_formed b e r = absurd (false≢true (sym e ∙ r))
+unready_formed : (b : Batches) → b.permit_clocks ≡ None → WellFormed b
+unready_formed b e q r = absurd (none-some q (sym e ∙ r))
 
-unready_none : (b : Batches) (sizes rows : List ℕ) → b.ready ≡ false → stands_in b sizes rows ≡ None
-unfolding set_up_if
+unready_none : (b : Batches) (sizes rows : List ℕ) → b.permit_clocks ≡ None → stands_in b sizes rows ≡ None
 unready_none b sizes rows e = rw e
 
 module _ (b : Batches) (last last₀ clocks clocks₀ : List ℕ) (n : ℕ) (cs : List Clock) (cleared : Cleared last last₀) (sized : length last₀ ≡ width) (heard : Heard clocks clocks₀ n cs) (wide : length clocks₀ ≡ max_tasks * width) where
-  pub unmade_starts : b.ready ≡ false → (sizes rows : List ℕ) → Lent sizes rows → Begins b sizes rows last clocks n cs None
+  pub unmade_starts : b.permit_clocks ≡ None → (sizes rows : List ℕ) → Lent sizes rows → Begins b sizes rows last clocks n cs None
   unmade_starts e sizes rows l =
       record {
         formed = unready_formed b e;
@@ -86,12 +85,12 @@ module _ (b : Batches) (last last₀ clocks clocks₀ : List ℕ) (n : ℕ) (cs 
   made_starts k t c sizes rows sizes₀ rows₀ r ls lr l e s =
       let g : get_or cs t.0 (empty width) ≡ c.0 = rw (← heard.first) (get_or-take n (clocks_at max_tasks clocks) t.0 (empty width) l ∙ sym e) in
       record {
-        formed = stood-formed b sizes rows _ s;
+        formed = s.formed;
         ring = record { places = ls ∙ r.places; entries = lr ∙ r.entries };
         last = cleared.sized ∙ sized;
         clocks = heard.sized ∙ wide;
         heard = heard.first;
-        stands = stood-view b sizes rows _ s ∙ rw g;
+        stands = s.view ∙ rw g;
         latest = last_empty last last₀ cleared sized;
       }
 
@@ -142,7 +141,7 @@ unfolding whole idle refused_fresh whole_tasks
 whole-refused = rw (whole-free slot_count)
 
 module _ (h : Head) (b : Batches) (w : Words) (sized : length w.makers ≡ slot_count * width) where
-  pub gives-refused : (last₀ : List ℕ) → Shows h w.slots w.tasks (idle StrictlyFair true 0 0) → b.ready ≡ false → Cleared w.last last₀ → length last₀ ≡ width
+  pub gives-refused : (last₀ : List ℕ) → Shows h w.slots w.tasks (idle StrictlyFair true 0 0) → b.permit_clocks ≡ None → Cleared w.last last₀ → length last₀ ≡ width
       → Lent w.sizes w.rows → length w.clocks ≡ max_tasks * width
       → Gives (record { refused = true; state = record { head = h; batches = b } }) w (quiet (refused 12) refused_fresh)
   gives-refused last₀ s e c l r k =

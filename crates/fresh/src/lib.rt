@@ -56,12 +56,7 @@ fn is_refused(count: u32, entries: usize, maker: TaskId) -> bool
 fn clear(words: &mut [u32])
     ensures { Cleared words.new words.old }
 {
-    let n = words.len();
-    let mut i: usize = 0;
-    while i < n {
-        words[i] = 0;
-        i += 1;
-    }
+    words.fill(0);
 }
 
 // ---- who
@@ -104,14 +99,9 @@ fn starting_clock(starts: &[u32], base: usize, n: usize) -> VectorClock
     requires { (n ≤ width) × (base + n ≤ length starts.now) }
     ensures { result.0 ≡ take n (drop base starts.now) ++ empty (width - n) }
 {
-    let mut out = VectorClock::new();
-    let mut j: usize = 0;
-    while j < n {
-        let x = starts[base + j];
-        out.0[j] = x;
-        j += 1;
-    }
-    out
+    let mut out = [0; VectorClock::WIDTH];
+    out[..n].copy_from_slice(&starts[base..base + n]);
+    VectorClock(out)
 }
 
 // The clocks of n tasks, row by row; those past them stay as they are.
@@ -119,11 +109,9 @@ fn start_clocks(starts: &[u32], n: usize, clocks: &mut [u32])
     requires { (n ≤ max_tasks) × (length starts.now ≡ n * n) × (length clocks.old ≡ max_tasks * width) }
     ensures { Heard clocks.new clocks.old n (fresh_clocks n n starts.now) }
 {
-    let mut i: usize = 0;
-    while i < n {
+    for i in 0..n {
         let c = starting_clock(starts, i * n, n);
         times::put_clock(clocks, times::TASKS, i, c);
-        i += 1;
     }
 }
 

@@ -6,7 +6,7 @@ ghost use Rattle.std.specs.Prelude.{◌≡◌, ◌-◌, ◌≤◌};
 ghost use Rattle.rules.specs.Sizes.{slot_count};
 
 use arrays::{Arrays, Came};
-use batches::Batches;
+use batches::{Batches, PermitClocks};
 use head::Head;
 use printing::bit;
 use queue::Waiters;
@@ -142,16 +142,15 @@ fn put_queue(buf: &mut [u8], at: usize, h: Head) -> usize {
     put_row(buf, e, &[7], &[r.slot.0 as u32], 0, bit(r.made) as usize)
 }
 
-fn batches_of(b: Batches) -> u32 {
-    let ring = b.permit_clocks;
-    if b.ready { standing(ring.count, 64) } else { 0 }
-}
-
 // The batches from the oldest on, and their clocks of n entries.
 fn put_batches(buf: &mut [u8], at: usize, b: Batches, n: usize, w: Arrays) -> usize {
-    let count = batches_of(b);
-    let first = b.permit_clocks.head as usize;
-    let p = put_row(buf, at, &[3, bit(b.ready)], &w.sizes, first, count as usize);
+    let ready = bit(b.permit_clocks.is_some());
+    let ring = b
+        .permit_clocks
+        .unwrap_or(PermitClocks { head: 0, count: 0 });
+    let count = standing(ring.count, 64);
+    let first = ring.head as usize;
+    let p = put_row(buf, at, &[3, ready], &w.sizes, first, count as usize);
     put_table(buf, p, 4, count, &w.rows, first * 16, 16, n, &[])
 }
 

@@ -19,10 +19,8 @@ fn spawn_children(n: usize, starts: &mut [u32; 256])
     requires { (n ≤ max_tasks) × (starts.old ≡ replicate 256 0) }
     ensures { starts.new ≡ rows_after n (n - 1) }
 {
-    let mut k: usize = 0;
-    while k + 1 < n {
+    for k in 0..n.saturating_sub(1) {
         spawn_child(n, k, starts);
-        k += 1;
     }
 }
 

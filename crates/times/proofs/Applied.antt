@@ -13,7 +13,6 @@ use Rattle.batches.specs.declared.Batches.{Batches}
 use Rattle.batches.specs.declared.Eaten.{Eaten}
 use Rattle.tables.specs.Table.{row}
 use Rattle.batches.specs.View.{stands_in, WellFormed, Took}
-use Rattle.batches.proofs.Setting.{stood-view, stood-formed}
 use Rattle.words.specs.declared.GrantWords.{GrantWords}
 use Rattle.words.specs.View.{taker_of, grant_of}
 use Rattle.times.specs.View.{clocks_at, clock_in, kept_of, Shows}
@@ -33,6 +32,6 @@ module _ (b : Batches) (sizes rows last makers clocks : List ℕ) (k : ℕ) (g :
   unfolding taker_of taking
   granted r sizes' rows' last' clocks' own h o t j =
       record {
-        formed = stood-formed r.batches sizes' rows' _ t.fed.stood;
-        view = rw (lt-ltb g.taker 256 h, j, t.fed.clock, t.latest, o, stood-view r.batches sizes' rows' _ t.fed.stood);
+        formed = t.fed.stood.formed;
+        view = rw (lt-ltb g.taker 256 h, j, t.fed.clock, t.latest, o, t.fed.stood.view);
       }

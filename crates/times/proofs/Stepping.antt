@@ -1,6 +1,7 @@
 -- A step by what it is to the times.
 use Rattle.std.specs.Prelude.{Option}
 use Prim.Native.Nat.{ℕ}
+use mathlib.Core.Logic.{◌⊎◌, inl, inr}
 use mathlib.Core.Path.{◌≡◌, refl, sym, ap, subst, ◌∙◌}
 use mathlib.Core.Bool.{true, false, false≢true}
 use mathlib.Core.List.{List, []}
@@ -98,13 +99,8 @@ module _ (a : Step) (d : Timing) (told : d ≡ timing_of a.act) (o : Answer) (la
   rests_trying clocks' is s h =
       rests Tries makers clocks' is (λ b sizes rows k. h b sizes rows makers ∙ tried_so o a.actor (kept_of b sizes rows last makers clocks) (able_failed a d o clocks told is s).1)
 
-  pub rests-taking : d ≡ Takes → RestsInTimes a o last makers clocks makers clocks
-  unfolding take_each
-  rests-taking is = rests Takes makers clocks is (λ b sizes rows k. refl)
-
-  pub rests_giving : d ≡ Gives → RestsInTimes a o last makers clocks makers clocks
-  unfolding grant_each release
-  rests_giving is = rests Gives makers clocks is (λ b sizes rows k. refl)
-
-  pub rests_staying : d ≡ Stays → RestsInTimes a o last makers clocks makers clocks
-  rests_staying is = rests Stays makers clocks is (λ b sizes rows k. refl)
+  pub rests_unchanged : (d ≡ Takes) ⊎ ((d ≡ Gives) ⊎ (d ≡ Stays)) → RestsInTimes a o last makers clocks makers clocks
+  unfolding take_each grant_each release
+  rests_unchanged (inl is) = rests Takes makers clocks is (λ b sizes rows k. refl)
+  rests_unchanged (inr (inl is)) = rests Gives makers clocks is (λ b sizes rows k. refl)
+  rests_unchanged (inr (inr is)) = rests Stays makers clocks is (λ b sizes rows k. refl)

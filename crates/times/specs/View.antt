@@ -55,16 +55,6 @@ pub record Ticked (c : VectorClock) (after : List ℕ) (t : TaskId) (before : Li
 abbrev pub taken_as : ℕ → TaskId → ℕ → Kept → Kept
 taken_as k t n w = taking k n (clock_at t w) t (λ c. tick t.0 c) w
 
--- the slot that was filled, or none
-abbrev pub slot_made : Answer → ℕ
-slot_made done = 256
-slot_made granted = 256
-slot_made pending = 256
-slot_made closed = 256
-slot_made none_left = 256
-slot_made (made x) = x.0
-slot_made (refused n) = 256
-
 -- 9, then 11, as `times_refusal` of `Times`
 abbrev pub last_tick : TaskId → Kept → Bool
 last_tick t w = leb largest (get_or (clock_at t w) t.0 0)

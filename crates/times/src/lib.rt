@@ -13,12 +13,12 @@ ghost use Rattle.batches.specs.View.{Lent, WellFormed, stands_in};
 ghost use Rattle.batches.specs.declared.Batches.{Batches};
 ghost use Rattle.words.specs.View.{grant_of, grants_of};
 ghost use Rattle.splitting.specs.Times.{timing_of};
-ghost use Rattle.times.specs.View.{Able, taken_as, slot_made, is_failed, refusal_kept, clocks_at, clock_in, kept_of, Shows, MayTick, Ticked, AbleAtRest, RestsInTimes};
+ghost use Rattle.times.specs.View.{Able, taken_as, is_failed, refusal_kept, clocks_at, clock_in, kept_of, Shows, MayTick, Ticked, AbleAtRest, RestsInTimes};
 
 use batches::Batches;
 use clock::VectorClock;
 use replies::{Check, Refusal, Reply};
-use rules::{Act, Slot, Step, TaskId};
+use rules::{Act, Step, TaskId};
 use splitting::Timing;
 use words::GrantWords;
 
@@ -55,8 +55,7 @@ fn join_task(clocks: &mut [u32], t: u32, clock: VectorClock)
     ensures { clocks_at max_tasks clocks.new ≡ set (clocks_at max_tasks clocks.old) t (join (clock_in max_tasks clocks.old t) clock.0) }
 {
     let i = t as usize;
-    let before = clock_in(clocks, TASKS, i);
-    let after = before.update(clock);
+    let after = clock_in(clocks, TASKS, i).update(clock);
     put_clock(clocks, TASKS, i, after);
 }
 
@@ -104,10 +103,8 @@ fn apply_grant(
     let x = g.taker as usize;
     let own = clock_in(makers, SLOTS, x);
     let eaten = b.take(sizes, rows, last, stock, g.count, own);
-    let clock = eaten.clock;
-    join_task(clocks, g.task, clock);
-    let left = eaten.batches;
-    left
+    join_task(clocks, g.task, eaten.clock);
+    eaten.batches
 }
 
 // A step's grants, one after another.
@@ -126,12 +123,10 @@ pub fn apply_grants(
     ensures { Shows result sizes.new rows.new last.new makers.now clocks.new (grant_each stock (grants_of count grants.now) (kept_of b sizes.old rows.old last.old makers.now clocks.old)) }
 {
     let mut out = b;
-    let mut i: usize = 0;
-    while i < count {
+    for i in 0..count {
         let g = words::grant_at(grants, i);
         let next = apply_grant(out, sizes, rows, last, makers, clocks, stock, g);
         out = next;
-        i += 1;
     }
     out
 }
@@ -154,10 +149,8 @@ fn take_as(
     let i = me.0 as usize;
     let mine = clock_in(clocks, TASKS, i);
     let eaten = b.take(sizes, rows, last, stock, n, mine);
-    let clock = eaten.clock;
-    put_ticked(clocks, me, mine, clock);
-    let left = eaten.batches;
-    left
+    put_ticked(clocks, me, mine, eaten.clock);
+    eaten.batches
 }
 
 // The actor's own taking, if there is one.
@@ -213,36 +206,15 @@ fn give_back(
     b.add(sizes, rows, stock, n, mine)
 }
 
-// The slot that a step made a request in; 256 if none.
-fn slot_made(r: Reply) -> usize
-    ensures { result ≡ slot_made (answer_of r) }
-{
-    match r {
-        Reply::Done => 256,
-        Reply::Granted => 256,
-        Reply::Pending => 256,
-        Reply::Closed => 256,
-        Reply::NoPermits => 256,
-        Reply::Made(x) => place_of(x),
-        Reply::Refused(_) => 256,
-    }
-}
-
-fn place_of(x: Slot) -> usize
-    ensures { result ≡ x.0 }
-{
-    x.0 as usize
-}
-
 // The clock of its maker goes to the slot that was filled.
 fn make(makers: &mut [u32], clocks: &[u32], reply: Reply, me: TaskId)
     requires { (length makers.old ≡ slot_count * width) × (length clocks.now ≡ max_tasks * width) }
     ensures { (b : Batches) (sizes rows last : List ℕ) → kept_of b sizes rows last makers.new clocks.now ≡ store (answer_of reply) me (kept_of b sizes rows last makers.old clocks.now) }
 {
-    let i = me.0 as usize;
-    let mine = clock_in(clocks, TASKS, i);
-    let x = slot_made(reply);
-    put_clock(makers, SLOTS, x, mine);
+    if let Reply::Made(x) = reply {
+        let mine = clock_in(clocks, TASKS, me.0 as usize);
+        put_clock(makers, SLOTS, x.0 as usize, mine);
+    }
 }
 
 // ---- refusals
@@ -251,21 +223,14 @@ fn own_entry(clocks: &[u32], me: TaskId) -> u32
     requires { length clocks.now ≡ max_tasks * width }
     ensures { result ≡ get_or (clock_in max_tasks clocks.now me.0) me.0 0 }
 {
-    let i = me.0 as usize;
-    if TASKS <= i {
-        return 0;
-    }
-    clocks[i * VectorClock::WIDTH + i]
+    clock_in(clocks, TASKS, me.0 as usize).get(me)
 }
 
 // A batch more, and no room.
 fn no_room(b: Batches, back: u32) -> bool
     ensures { (sizes rows : List ℕ) → result ≡ (ltb 0 back && full (stands_in b sizes rows)) }
 {
-    if back == 0 {
-        return false;
-    }
-    b.is_full()
+    0 < back && b.is_full()
 }
 
 // A tick more, and no number for it.
@@ -273,10 +238,7 @@ fn last_tick(clocks: &[u32], me: TaskId, ticks: bool) -> bool
     requires { length clocks.now ≡ max_tasks * width }
     ensures { result ≡ (ticks && leb largest (get_or (clock_in max_tasks clocks.now me.0) me.0 0)) }
 {
-    if ticks {
-        return 4_294_967_295 <= own_entry(clocks, me);
-    }
-    false
+    ticks && u32::MAX <= own_entry(clocks, me)
 }
 
 // 9, then 11, for a step that gives so many back, and whose actor ticks or not.
@@ -298,18 +260,14 @@ fn timing_of(act: Act) -> Timing
     ensures { result ≡ timing_of act }
 {
     match act {
-        Act::Acquire(_) => Timing::Makes,
-        Act::AcquireBypassable(_) => Timing::Makes,
-        Act::AcquireReserving { least, asked } => Timing::Makes,
-        Act::Upgrade { held, wanted } => Timing::Makes,
+        Act::Acquire(_)
+        | Act::AcquireBypassable(_)
+        | Act::AcquireReserving { .. }
+        | Act::Upgrade { .. } => Timing::Makes,
         Act::Poll(_) => Timing::Takes,
-        Act::Try(_) => Timing::Tries,
-        Act::TryUpgrade { held, wanted } => Timing::Tries,
-        Act::Release(_) => Timing::Gives,
-        Act::Drop(_) => Timing::Gives,
-        Act::Close => Timing::Stays,
-        Act::Sleep => Timing::Stays,
-        Act::Finish => Timing::Stays,
+        Act::Try(_) | Act::TryUpgrade { .. } => Timing::Tries,
+        Act::Release(_) | Act::Drop(_) => Timing::Gives,
+        Act::Close | Act::Sleep | Act::Finish => Timing::Stays,
     }
 }
 
@@ -317,15 +275,7 @@ fn timing_of(act: Act) -> Timing
 fn is_failed(r: Reply) -> bool
     ensures { result ≡ is_failed (answer_of r) }
 {
-    match r {
-        Reply::Done => false,
-        Reply::Granted => false,
-        Reply::Pending => false,
-        Reply::Closed => true,
-        Reply::NoPermits => true,
-        Reply::Made(_) => false,
-        Reply::Refused(_) => false,
-    }
+    matches!(r, Reply::Closed | Reply::NoPermits)
 }
 
 // A try: the actor takes, or ticks and joins.
@@ -393,29 +343,20 @@ pub fn times_step(
     ensures { (ticks : Bool) → Shows result sizes.new rows.new last.new makers.new clocks.new (kept_step step (answer_of reply) (grants_of count grants.now) (record { stock = stock; back = back; ticks = ticks }) (kept_of b sizes.old rows.old last.old makers.old clocks.old)) }
 {
     let me = step.actor;
-    let act = step.act;
-    let change = timing_of(act);
+    let change = timing_of(step.act);
     match change {
         Timing::Makes => {
             make(makers, clocks, reply, me);
-            return b;
+            b
         }
-        Timing::Takes => {
-            return take_granted(b, sizes, rows, last, clocks, stock, grants, count, me);
-        }
-        Timing::Tries => {
-            return try_times(
-                b, sizes, rows, last, clocks, stock, grants, count, me, reply,
-            );
-        }
-        Timing::Gives => {
-            return give_times(
-                b, sizes, rows, last, makers, clocks, stock, back, grants, count, me,
-            );
-        }
-        Timing::Stays => {
-            return b;
-        }
+        Timing::Takes => take_granted(b, sizes, rows, last, clocks, stock, grants, count, me),
+        Timing::Tries => try_times(
+            b, sizes, rows, last, clocks, stock, grants, count, me, reply,
+        ),
+        Timing::Gives => give_times(
+            b, sizes, rows, last, makers, clocks, stock, back, grants, count, me,
+        ),
+        Timing::Stays => b,
     }
 }
 
@@ -425,13 +366,10 @@ pub fn rest_times(last: &[u32], makers: &mut [u32], clocks: &mut [u32], step: St
     ensures { RestsInTimes step (answer_of reply) last.now makers.new clocks.new makers.old clocks.old }
 {
     let me = step.actor;
-    let act = step.act;
-    let change = timing_of(act);
+    let change = timing_of(step.act);
     match change {
         Timing::Makes => make(makers, clocks, reply, me),
-        Timing::Takes => {}
         Timing::Tries => fail_try(last, clocks, me),
-        Timing::Gives => {}
-        Timing::Stays => {}
+        Timing::Takes | Timing::Gives | Timing::Stays => {}
     }
 }

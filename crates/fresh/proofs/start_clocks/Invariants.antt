@@ -1,10 +1,6 @@
 -- A row a turn.
-use Prim.Native.Nat.{◌-◌}
 use Rattle.fresh.proofs.Rows.{Making}
 use Rattle.fresh.proofs.start_clocks.Given as goal
 
 abbrev pub invariant-loop-i : goal.invariant-loop-i
 invariant-loop-i l = Making l.starts l.clocks l.n l.i
-
-abbrev pub decreases-loop-i : goal.decreases-loop-i
-decreases-loop-i l = l.n - l.i

@@ -8,14 +8,14 @@ loop-i-init c = sums_none _ _
 pub returns-then-size-eq0 : goal.returns-then-size-eq0
 returns-then-size-eq0 c = search (finds_empty, rules)
 
-pub overflow_cast-sum : goal.overflow_cast-sum
-overflow_cast-sum c = search (wider, c.shared_slice_known-1.given, rules)
+pub overflow_cast-size : goal.overflow_cast-size
+overflow_cast-size c = search (wider, rules)
 
 pub overflow_add-sum : goal.overflow_add-sum
-overflow_add-sum c = search (sum_fits, c.shared_slice_known-1.given, rules)
+overflow_add-sum c = search (sum_fits, rules)
 
 pub loop-i-preserved : goal.loop-i-preserved
-loop-i-preserved c = search (sums_more, c.shared_slice_known-1.given, c.if-size-eq0.false, rules)
+loop-i-preserved c = search (sums_more, c.if-size-eq0.false, rules)
 
 pub returns : goal.returns
 returns c = search (sums_whole, rules)

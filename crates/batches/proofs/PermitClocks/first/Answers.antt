@@ -2,7 +2,7 @@
 use borrow.Author.Rules.{rules}
 use Rattle.batches.specs.View.{ring}
 use Rattle.batches.proofs.First.{first-none, first_pushed}
-use Rattle.batches.proofs.PermitClocks.restart.Goals as goal
+use Rattle.batches.proofs.PermitClocks.first.Goals as goal
 
 pub returns-then-size-eq0 : goal.returns-then-size-eq0
 unfolding ring
