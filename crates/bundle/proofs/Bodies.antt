@@ -1,31 +1,30 @@
 -- Lengths added up, and the body of a script where they say that it stands.
 use Prim.Native.Nat.{ℕ, zero, suc, ◌+◌, ◌-◌, ◌*◌, ◌≤◌, ◌<◌}
 use native.Mathlib.Nat.{add-sub_cancel_left}
+use native.Mathlib.Numerals.{add-one}
 use native.Mathlib.Omega.{arith}
 use mathlib.Core.Path.{◌≡◌, refl, sym, ap, ◌∙◌}
 use mathlib.Core.List.{List, [], ◌∷◌}
 use borrow.Author.Tests.{lt-ltb, le-ltb, le-leb, lt-leb, leb-true, leb-false}
 use lib.Dec.{leb, ltb}
-use lib.ListN.{length, get_or, take, drop, length-drop, length-append}
-use lib.Seq.{drop-drop, take-take, get_or-take, take-append_seam, drop-append-add}
+use lib.ListN.{length, get_or, take, drop, length-drop, length-append, drop_of_length-le}
+use lib.Seq.{drop-cons, length-take-le, drop-drop, take-take, get_or-take, take-append_seam, drop-append-add}
 use Rattle.rules.proofs.Bools.{by_test}
 use Rattle.bundle_rules.specs.Bundled.{most_scripts, contents_length, Entry, bodies, entry_sizes}
 use Rattle.bundle.specs.declared.Contents.{Contents}
 use Rattle.bundle.specs.Contents.{Holds, sum_of, Sums, start_of, body_at}
-use Rattle.bundle.proofs.Said.{sum_left}
 
-module _ (ls : List ℕ) (n i total whole : ℕ) (so_far : total + sum_of (take (n - i) (drop i ls)) ≡ whole) where
-  pub sum-next : i < n → n ≤ 256 → length ls ≡ 256 → total + get_or ls i 0 + sum_of (take (n - (i + 1)) (drop (i + 1) ls)) ≡ whole
-  sum-next h b l = omega (arith, sum_left ls n i h (omega arith))
+pub sum-next : (xs : List ℕ) (i total whole : ℕ) → i < length xs → total + sum_of (drop i xs) ≡ whole → total + get_or xs i 0 + sum_of (drop (i + 1) xs) ≡ whole
+unfolding sum_of
+sum-next xs i total whole h so_far =
+    let next : sum_of (drop i xs) ≡ get_or xs i 0 + sum_of (drop (i + 1) xs) = rw (add-one, drop-cons xs i 0 h) in
+    omega arith
 
-  sum-end : n ≤ i → total ≡ whole
-  unfolding sum_of
-  sum-end h =
-      let k : n - i ≡ 0 = omega arith in
-      omega (arith, rw k at so_far)
-
-pub sum_all : (ls : List ℕ) (n i total : ℕ) → i ≤ n → n ≤ i → total ≤ 4294967296 * i → total + sum_of (take (n - i) (drop i ls)) ≡ sum_of (take n ls) → Sums ls n total
-sum_all ls n i total l h b e = record { value = sum-end ls n i total (sum_of (take n ls)) e h; bound = omega arith }
+pub sum_all : (ls : List ℕ) (n i total : ℕ) → n ≤ 256 → length ls ≡ 256 → i ≤ length (take n ls) → length (take n ls) ≤ i → total ≤ 4294967296 * i → total + sum_of (drop i (take n ls)) ≡ sum_of (take n ls) → Sums ls n total
+unfolding sum_of
+sum_all ls n i total b l h k t e =
+    let none : drop i (take n ls) ≡ [] = drop_of_length-le (take n ls) k in
+    record { value = omega (arith, rw none at e); bound = omega (arith, length-take-le n ls (omega arith)) }
 
 -- What `body` answers.
 

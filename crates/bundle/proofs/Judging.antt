@@ -1,6 +1,6 @@
 -- The first ground that holds, and what it tells of the bytes of a bundle.
 use Rattle.std.specs.Prelude.{Result, Ok, Err}
-use Prim.Native.Nat.{ℕ, ◌+◌, ◌-◌, ◌*◌, ◌≤◌, ◌<◌}
+use Prim.Native.Nat.{ℕ, min, ◌+◌, ◌*◌, ◌≤◌, ◌<◌}
 use native.Mathlib.Decide.{dec_lt}
 use native.Mathlib.Omega.{arith}
 use mathlib.Core.Path.{◌≡◌, refl, sym, ◌∙◌}
@@ -62,16 +62,13 @@ module _ (s : List ℕ) (n more : ℕ) (cut : Bool) (q : NumberAt s 0 n) (k : cu
         enough = l;
       }
 
--- Whether the table is cut, without a sum that wraps.
+-- Whether the table is cut: a sum that is held at 2^64 - 1 is as long as any table.
 
-pub not_short : (kept more n : ℕ) → 4 + 24 * n ≤ kept → false ≡ ltb (kept + more) (contents_length n)
-not_short kept more n h = sym (le-ltb (kept + more) (contents_length n) (omega arith))
-
-pub short_by : (kept more n : ℕ) → kept < 4 + 24 * n → ltb more (4 + 24 * n - kept) ≡ ltb (kept + more) (contents_length n)
-short_by kept more n h =
-    elim (dec_lt more (4 + 24 * n - kept)) [
-      | yes k ↦ lt-ltb more (4 + 24 * n - kept) k ∙ sym (lt-ltb (kept + more) (contents_length n) (omega arith))
-      | no k ↦ le-ltb more (4 + 24 * n - kept) (omega arith) ∙ sym (le-ltb (kept + more) (contents_length n) (omega arith))
+pub is_short : (kept more n here : ℕ) → n < 4294967296 → here ≡ min (kept + more) 18446744073709551615 → ltb here (4 + 24 * n) ≡ ltb (kept + more) (contents_length n)
+is_short kept more n here f e =
+    elim (dec_lt (kept + more) (contents_length n)) [
+      | yes k ↦ lt-ltb here (4 + 24 * n) (omega arith) ∙ sym (lt-ltb (kept + more) (contents_length n) k)
+      | no k ↦ le-ltb here (4 + 24 * n) (omega arith) ∙ sym (le-ltb (kept + more) (contents_length n) (omega arith))
     ]
 
 -- Where a whole table stands.

@@ -16,14 +16,9 @@ fn read_names(s: &[u8], n: usize, names: &mut [u8])
     requires { (n ≤ most_scripts) × (contents_length n ≤ length s.now) × (length names.old ≡ name_length * most_scripts) }
     ensures { stretches name_length n names.new ≡ names_of (rows_of n (drop number_length s.now)) }
 {
-    let mut i: usize = 0;
-    let mut at: usize = 4;
-    let mut to: usize = 0;
-    while i < n {
-        let e = at + NAME;
-        to = text::put(names, to, &s[at..e]);
-        at += ROW;
-        i += 1;
+    for i in 0..n {
+        let at = 4 + ROW * i;
+        text::put(names, NAME * i, &s[at..at + NAME]);
     }
 }
 
@@ -32,12 +27,9 @@ fn read_lengths(s: &[u8], n: usize, lengths: &mut [u32])
     requires { (n ≤ most_scripts) × (contents_length n ≤ length s.now) × (length lengths.old ≡ most_scripts) }
     ensures { take n lengths.new ≡ sizes_of (rows_of n (drop number_length s.now)) }
 {
-    let mut i: usize = 0;
-    let mut at: usize = 4;
-    while i < n {
+    for i in 0..n {
+        let at = 4 + ROW * i;
         lengths[i] = number_at(s, at + 20);
-        at += ROW;
-        i += 1;
     }
 }
 
@@ -47,15 +39,12 @@ fn in_order(s: &[u8], n: usize) -> bool
     ensures { result ≡ in_order (contents_length n) (rows_of n (drop number_length s.now)) (length s.now) }
 {
     let mut end: u64 = 4 + ROW_64 * n as u64;
-    let mut i: usize = 0;
-    let mut at: usize = 4;
-    while i < n {
-        if number_at(s, at + 16) as u64 != end {
+    for i in 0..n {
+        let at = 4 + ROW * i;
+        if u64::from(number_at(s, at + 16)) != end {
             return false;
         }
-        end += number_at(s, at + 20) as u64;
-        at += ROW;
-        i += 1;
+        end += u64::from(number_at(s, at + 20));
     }
     end == s.len() as u64
 }
@@ -64,12 +53,8 @@ fn in_order(s: &[u8], n: usize) -> bool
 fn is_cut(kept: usize, more: u64, n: u32) -> bool
     ensures { result ≡ ltb (kept + more) (contents_length n) }
 {
-    let table = 4 + ROW_64 * n as u64;
-    let here = kept as u64;
-    if table <= here {
-        return false;
-    }
-    more < table - here
+    let table = 4 + ROW_64 * u64::from(n);
+    (kept as u64).saturating_add(more) < table
 }
 
 // Whether the bodies are in order, and the whole is not too long.
@@ -77,13 +62,7 @@ fn well_placed(s: &[u8], n: usize, more: u64) -> bool
     requires { Whole s.now n more }
     ensures { result ≡ in_order (contents_length n) (rows_of n (drop number_length s.now)) (length s.now + more) && leb (length s.now + more) longest }
 {
-    if 0 < more {
-        return false;
-    }
-    if LONGEST < s.len() {
-        return false;
-    }
-    in_order(s, n)
+    more == 0 && s.len() <= LONGEST && in_order(s, n)
 }
 
 // What is said of a bundle with a whole table of n rows.
@@ -153,10 +132,8 @@ pub fn sum(lengths: &[u32], n: usize) -> u64
     ensures { Sums lengths.now n result }
 {
     let mut total: u64 = 0;
-    let mut i: usize = 0;
-    while i < n {
-        total += lengths[i] as u64;
-        i += 1;
+    for size in &lengths[..n] {
+        total += u64::from(*size);
     }
     total
 }

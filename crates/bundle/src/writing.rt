@@ -30,14 +30,11 @@ fn put_rows(out: &mut [u8], names: &[u8], lengths: &[u32], n: usize) -> usize
 {
     let mut at: usize = 4;
     let mut offset: u32 = 4 + ROW_32 * n as u32;
-    let mut i: usize = 0;
-    while i < n {
+    for i in 0..n {
         let a = NAME * i;
-        let e = a + NAME;
         let size = lengths[i];
-        at = put_row(out, at, &names[a..e], offset, size);
+        at = put_row(out, at, &names[a..a + NAME], offset, size);
         offset += size;
-        i += 1;
     }
     at
 }

@@ -1,16 +1,11 @@
+-- `names::all_zero`: `all` of the recursion in the rules.
+use lib.Dec.{eqb}
 use mathlib.Core.Path.{refl}
-use Rattle.bundle.proofs.Naming.{zero_here, other_here, zeros_all}
 use borrow.Author.Rules.{rules}
+use Rattle.std.proofs.lemmas.List.Recursion.{and_is}
+use Rattle.bundle_rules.specs.Bundled.{zeros}
 use Rattle.bundle.proofs.names.all_zero.Goals as goal
 
-pub loop-i-init : goal.loop-i-init
-loop-i-init c = (search rules, refl)
-
-pub returns-then-name-i-ne0 : goal.returns-then-name-i-ne0
-returns-then-name-i-ne0 c = search (other_here, rules)
-
-pub loop-i-preserved : goal.loop-i-preserved
-loop-i-preserved c = search (zero_here, rules)
-
 pub returns : goal.returns
-returns c = search (zeros_all, rules)
+unfolding zeros
+returns c = and_is zeros (λ b. eqb b 0) refl (λ _ _. refl) c.args.s.now 0 _ (search rules) (search rules)

@@ -1,16 +1,12 @@
-use native.Mathlib.Nat.{sub-zero}
 use Rattle.bundle.proofs.Naming.{bad-name, good_name, good_names}
 use borrow.Author.Rules.{rules}
 use Rattle.bundle.proofs.names.well_named.Goals as goal
-
-pub loop-i-init : goal.loop-i-init
-loop-i-init c = (search rules, search rules, rw sub-zero)
 
 pub returns-then-not-well_made : goal.returns-then-not-well_made
 returns-then-not-well_made c = search (bad-name, rules)
 
 pub loop-i-preserved : goal.loop-i-preserved
-loop-i-preserved c = (search rules, search rules, search (good_name, rules))
+loop-i-preserved c = search (good_name, rules)
 
 pub returns : goal.returns
 returns c = search (good_names, rules)

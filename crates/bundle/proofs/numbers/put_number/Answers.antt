@@ -1,18 +1,10 @@
--- `numbers::put_number`: four stores, one behind the other.
-use native.Mathlib.Omega.{arith}
-use lib.ListN.{length-set}
-use Rattle.bundle.proofs.FourBytes.{number_put}
-use borrow.Author.Rules.{rules}
+-- `numbers::put_number`: std's four bytes are those of the rules.
+use mathlib.Core.Path.{◌≡◌, ◌∙◌}
+use Rattle.bundle_rules.specs.Numbers.{bytes_of}
+use Rattle.bundle.proofs.FourBytes.{number_bytes}
 use Rattle.bundle.proofs.numbers.put_number.Goals as goal
 
-pub bounds-out-at-2 : goal.bounds-out-at-2
-bounds-out-at-2 c = simp length-set (omega arith)
-
-pub bounds-out-at-3 : goal.bounds-out-at-3
-bounds-out-at-3 c = simp length-set (omega arith)
-
-pub bounds-out-at-4 : goal.bounds-out-at-4
-bounds-out-at-4 c = simp length-set (omega arith)
-
 pub returns : goal.returns
-returns c = search (number_put, rules)
+returns c =
+    let e : c.to_le_bytes.result ≡ bytes_of 4 c.args.n = c.to_le_bytes.ensures ∙ number_bytes c.args.n in
+    rw e at c.put.ensures

@@ -7,7 +7,4 @@ use Rattle.bundle.proofs.reading.in_order.Given as goal
 
 abbrev pub invariant-loop-i : goal.invariant-loop-i
 invariant-loop-i l =
-    (l.i ≤ l.n) × (l.at ≡ 4 + 24 * l.i) × (l.end ≤ 4 + 24 * l.n + 4294967296 * l.i) × (in_order l.end (rows_of (l.n - l.i) (drop l.at l.s)) (length l.s) ≡ in_order (4 + 24 * l.n) (rows_of l.n (drop 4 l.s)) (length l.s))
-
-abbrev pub decreases-loop-i : goal.decreases-loop-i
-decreases-loop-i l = l.n - l.i
+    (l.end ≤ 4 + 24 * l.n + 4294967296 * l.i) × (in_order l.end (rows_of (l.n - l.i) (drop (4 + 24 * l.i) l.s)) (length l.s) ≡ in_order (4 + 24 * l.n) (rows_of l.n (drop 4 l.s)) (length l.s))

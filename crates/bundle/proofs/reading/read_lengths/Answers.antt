@@ -1,11 +1,6 @@
-use native.Mathlib.Nat.{sub-zero}
-use mathlib.Core.Path.{refl}
 use Rattle.bundle.proofs.Rows.{size_here, sizes_all}
 use borrow.Author.Rules.{rules}
 use Rattle.bundle.proofs.reading.read_lengths.Goals as goal
-
-pub loop-i-init : goal.loop-i-init
-loop-i-init c = (search rules, search rules, refl, rw sub-zero)
 
 pub loop-i-preserved : goal.loop-i-preserved
 loop-i-preserved c = search (size_here, rules)

@@ -1,14 +1,9 @@
-use native.Mathlib.Nat.{sub-zero}
-use mathlib.Core.Path.{refl}
 use Rattle.bundle.proofs.Rows.{name_here, names_all}
 use borrow.Author.Rules.{rules}
 use Rattle.bundle.proofs.reading.read_names.Goals as goal
 
-pub loop-i-init : goal.loop-i-init
-loop-i-init c = (search rules, search rules, search rules, refl, rw sub-zero)
-
 pub loop-i-preserved : goal.loop-i-preserved
-loop-i-preserved c = (search rules, search rules, search rules, search rules, search (name_here, rules))
+loop-i-preserved c = search (name_here, rules)
 
 pub returns : goal.returns
 returns c = search (names_all, rules)

@@ -1,21 +1,23 @@
-use native.Mathlib.Nat.{sub-zero, zero-add}
-use Rattle.bundle.proofs.Bodies.{sum-next, sum_all}
+use Prim.Native.Nat.{◌<◌}
 use native.Mathlib.Omega.{arith}
-use borrow.Author.Rules.{rules}
+use mathlib.Core.Path.{◌≡◌}
+use lib.ListN.{get_or, take}
+use lib.Seq.{length-take-le, get_or-take}
+use Rattle.bundle.specs.Contents.{sum_of}
+use Rattle.bundle.proofs.Bodies.{sum-next, sum_all}
 use Rattle.bundle.proofs.reading.sum.Goals as goal
 
-pub loop-i-init : goal.loop-i-init
-loop-i-init c = (search rules, search rules, rw (sub-zero, zero-add))
-
-pub overflow_cast-total : goal.overflow_cast-total
-overflow_cast-total c = omega (arith, c.shared_slice_known-1.given c.loop-i.i)
-
-pub overflow_add-total : goal.overflow_add-total
-overflow_add-total c = omega (arith, c.shared_slice_known-1.given c.loop-i.i)
-
-pub loop-i-preserved : goal.loop-i-preserved
-loop-i-preserved c =
-    (search rules, omega (arith, c.shared_slice_known-1.given c.loop-i.i), search (sum-next, rules))
+pub loop-size-preserved : goal.loop-size-preserved
+loop-size-preserved c =
+    let i = c.loop-size.size-index in
+    let xs = take c.args.n c.args.lengths.now in
+    let below : i < c.args.n = omega (arith, length-take-le c.args.n c.args.lengths.now (omega arith)) in
+    let same : get_or xs i 0 ≡ get_or c.args.lengths.now i 0 = get_or-take c.args.n c.args.lengths.now i 0 below in (
+      omega (arith, same, c.type_inv.lengths i),
+      rw c.from-total.ensures (sum-next xs i c.loop-size.total (sum_of xs) c.loop-size-test.true c.loop-size.invariant.1),
+    )
 
 pub returns : goal.returns
-returns c = search (sum_all, rules)
+returns c =
+    sum_all c.args.lengths.now c.args.n c.loop-size.size-index c.loop-size.total c.requires.0 c.requires.1
+    c.loop-size.auto.size-index-end c.loop-size-test.false c.loop-size.invariant.0 c.loop-size.invariant.1

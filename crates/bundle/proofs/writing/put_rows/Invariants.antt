@@ -1,10 +1,6 @@
 -- `bundle::put_rows`: whoever puts the rows that are left has put all.
-use Prim.Native.Nat.{◌-◌}
 use Rattle.bundle.proofs.Putting.{Putting}
 use Rattle.bundle.proofs.writing.put_rows.Given as goal
 
 abbrev pub invariant-loop-i : goal.invariant-loop-i
 invariant-loop-i l = Putting l.initial.out l.names l.lengths l.n l.out l.at l.offset l.i
-
-abbrev pub decreases-loop-i : goal.decreases-loop-i
-decreases-loop-i l = l.n - l.i
