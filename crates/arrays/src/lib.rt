@@ -11,7 +11,7 @@ ghost use Rattle.points.specs.Told.{told_by, answer_to};
 ghost use Rattle.arrays.specs.Arrays.{words_in, Owes};
 
 use fresh::Started;
-use points::Told;
+use replies::Refusal;
 use rules::{Act, Fairness, Question, Step, TaskId};
 use state::{BatchSemaphore, Stepped};
 
@@ -85,7 +85,7 @@ pub fn act(s: BatchSemaphore, w: Arrays, me: TaskId, act: Act) -> Came
     step(s, w, Step { actor: me, act })
 }
 
-pub fn point(s: BatchSemaphore, w: Arrays, me: TaskId, q: Question) -> Told
+pub fn point(s: BatchSemaphore, w: Arrays, me: TaskId, q: Question) -> Result<bool, Refusal>
     ensures { told_by result ≡ answer_to s (words_in w) w.grants me q }
 {
     let slots = w.slots;

@@ -3,7 +3,6 @@
 
 ghost use Rattle.std.specs.Prelude.{◌≡◌, Bool, false, not, ◌&&◌, ◌||◌, List, ℕ, ◌+◌, ◌*◌, ◌≤◌, ◌<◌, ltb, length, get_or};
 ghost use Rattle.rules.specs.Sizes.{slot_count, max_tasks};
-ghost use Rattle.rules.specs.Refusals.{bad_reserving};
 ghost use Rattle.rules.specs.Broken.{any_of, reserved_slots};
 ghost use Rattle.splitting.specs.Broken.{cannot_wait};
 ghost use Rattle.queue.specs.View.{waiters_of, reservation_of};
@@ -19,16 +18,6 @@ use records::Request;
 use state::BatchSemaphore;
 
 // ---- a slot's words, from b on: used, asked, least, kind, reserving, task, queued, holding, completed, polled
-// A reserving request that refusal 7 would meet.
-fn bad_reserving(least: u32, asked: u32) -> bool
-    ensures { result ≡ bad_reserving least asked }
-{
-    if asked == 0 {
-        return true;
-    }
-    asked < least
-}
-
 // A kind or a mark that stands for nothing, or an ask that 6 or 7 would have refused.
 fn ask_is_wrong(slots: &[u32], b: usize, fair: bool) -> bool
     requires { b + request_words ≤ length slots.now }
@@ -37,7 +26,7 @@ fn ask_is_wrong(slots: &[u32], b: usize, fair: bool) -> bool
     2 < slots[b + 3]
         || match slots[b + 4] {
             0 => false,
-            1 => fair || bad_reserving(slots[b + 2], slots[b + 1]),
+            1 => fair || records::bad_reserving(slots[b + 2], slots[b + 1]),
             _ => true,
         }
 }

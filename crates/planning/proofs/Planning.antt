@@ -1,5 +1,5 @@
 -- What is planned, from what each arm has decided.
-use Rattle.std.specs.Prelude.{None}
+use Rattle.std.specs.Prelude.{None, Result}
 use Prim.Native.Nat.{ℕ, ◌-◌}
 use mathlib.Core.Path.{◌≡◌, refl, ap, ◌∙◌}
 use mathlib.Core.Bool.{Bool, true, false}
@@ -10,7 +10,6 @@ use Rattle.rules.specs.declared.Slot.{Slot}
 use Rattle.rules.specs.declared.Ask.{Ask}
 use Rattle.rules.specs.declared.Priority.{Priority}
 use Rattle.rules.specs.declared.Priority.TheVariants.{Front}
-use Rattle.rules.specs.declared.Direct.{Direct}
 use Rattle.rules.specs.declared.Polling.{Polling}
 use Rattle.rules.specs.declared.Dropping.{Dropping}
 use Rattle.rules.specs.declared.Act.{Act}
@@ -22,7 +21,7 @@ use Rattle.rules.specs.Polling.{takes_in}
 use Rattle.rules.specs.Steps.{upgrade_ask}
 use Rattle.rules.specs.Refusals.{Ground, ◌if◌, bad_reserving, bad_upgrade, returned}
 use Rattle.splitting.specs.Who.{lowest_free, direct, polling, dropping, gives_back, grounds}
-use Rattle.replies.specs.declared.Check.{Check}
+use Rattle.replies.specs.declared.Refusal.{Refusal}
 use Rattle.records.specs.declared.Request.{Request}
 use Rattle.records.specs.View.{Stands}
 use Rattle.words.specs.View.{slots_of}
@@ -33,12 +32,8 @@ use Rattle.choosing.specs.Choice.{choice_of}
 use Rattle.planning.specs.declared.Plan.{Plan}
 use Rattle.planning.specs.Plans.{Says, Plans, Planned}
 
--- ---- a request is made
-pub makes_so : (c : Check) (i : ℕ) (a : Ask) (gs : List Ground) → Says c gs → Plans (record { check = c; back = 0; ticks = false; choice = Makes i a }) gs 0 false (Makes i a)
-makes_so c i a gs s = record { check = s.first; back = refl; ticks = refl; choice = refl }
-
--- in the slot that is free, with grounds that look at it
-module _ (r : Plan) (c : Check) (i : ℕ) (a : Ask) (f : (gs : List Ground) → Says c gs → Plans r gs 0 false (Makes i a)) where
+-- ---- a request is made, in the slot that is free, with grounds that look at it
+module _ (r : Plan) (c : Result (Unit {0}) Refusal) (i : ℕ) (a : Ask) (f : (gs : List Ground) → Says c gs → Plans r gs 0 false (Makes i a)) where
   makes_at : (k : ℕ) (gs : ℕ → List Ground) (b : Ask) → i ≡ k → a ≡ b → Says c (gs i) → Plans r (gs k) 0 false (Makes k b)
   makes_at k gs b e ea s = rw (← e, ← ea) (f (gs i) s)
 
@@ -59,18 +54,14 @@ module _ (r : Plan) (c : Check) (i : ℕ) (a : Ask) (f : (gs : List Ground) → 
         let asks : a ≡ upgrade_ask (is_strict h.fairness) (wanted - held) = ea ∙ (λ j. upgrade_ask (eb j) (en j)) in
         makes_at (lowest_free (slots_of ss)) (λ (j : ℕ). 7 if bad_upgrade held wanted ∷ 8 if leb slot_count j ∷ []) (upgrade_ask (is_strict h.fairness) (wanted - held)) e asks s
 
--- ---- a try, a release
-pub try_planned : (h : Head) (ss ts : List ℕ) (c : Check) (gs : List Ground) (k : Priority) (n : ℕ) (d : Direct) → Says c gs → ((ts : List ℕ) → d ≡ direct k n (plain_of h ss ts))
-    → Plans (record { check = c; back = 0; ticks = true; choice = Tries n d }) gs 0 true (Tries n (direct k n (plain_of h ss ts)))
-try_planned h ss ts c gs k n d s e = record { check = s.first; back = refl; ticks = refl; choice = ap (Tries n) (e ts) }
-
-pub release-planned : (h : Head) (ss ts : List ℕ) (c : Check) (n : ℕ) → ((ss ts : List ℕ) → Says c (grounds (Release n) (plain_of h ss ts)))
+-- ---- a release
+pub release-planned : (h : Head) (ss ts : List ℕ) (c : Result (Unit {0}) Refusal) (n : ℕ) → ((ss ts : List ℕ) → Says c (grounds (Release n) (plain_of h ss ts)))
     → Planned (record { check = c; back = n; ticks = ltb 0 n; choice = Releases n }) (Release n) (plain_of h ss ts)
 unfolding choice_of
 release-planned h ss ts c n s = record { check = (s ss ts).first; back = refl; ticks = refl; choice = refl }
 
 -- ---- the request that is read at the slot: a poll, and a drop
-module _ (h : Head) (ss ts : List ℕ) (x : Slot) (r : Request) (e : Stands r (get_or (slots_of ss) x.0 None)) (c : Check) where
+module _ (h : Head) (ss ts : List ℕ) (x : Slot) (r : Request) (e : Stands r (get_or (slots_of ss) x.0 None)) (c : Result (Unit {0}) Refusal) where
   pub poll-planned : (q : Polling) (b : Bool) → ((ts : List ℕ) → q ≡ polling x (plain_of h ss ts)) → b ≡ takes_in q
       → ((x : Slot) (ss ts : List ℕ) → Stands r (get_or (slots_of ss) x.0 None) → Says c (grounds (Poll x) (plain_of h ss ts)))
       → Planned (record { check = c; back = 0; ticks = b; choice = Polls x r.ask.asked q }) (Poll x) (plain_of h ss ts)

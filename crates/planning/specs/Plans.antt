@@ -1,19 +1,19 @@
 -- What the checks say and what is planned, in the words of the rules.
-use Rattle.std.specs.Prelude.{ℕ, ◌≡◌, Bool, not, ◌&&◌, ◌||◌, List, [], ◌∷◌, eqb}
+use Rattle.std.specs.Prelude.{ℕ, ◌≡◌, Bool, not, ◌&&◌, ◌||◌, List, [], ◌∷◌, eqb, Result}
 use Rattle.rules.specs.declared.TaskId.{TaskId}
 use Rattle.rules.specs.declared.Act.{Act}
 use Rattle.rules.specs.Refusals.{Ground, ◌if◌, first}
 use Rattle.splitting.specs.Plain.{Plain, Request}
 use Rattle.splitting.specs.Who.{no_such_task, not_runnable, grounds}
 use Rattle.splitting.specs.Times.{back_of, ticks_in}
-use Rattle.replies.specs.declared.Check.{Check}
+use Rattle.replies.specs.declared.Refusal.{Refusal}
 use Rattle.replies.specs.Answers.{given}
 use Rattle.choosing.specs.declared.Choice.{Choice}
 use Rattle.choosing.specs.Choice.{choice_of}
 use Rattle.planning.specs.declared.Plan.{Plan}
 
 -- the first of some grounds that is given
-pub record Says (r : Check) (gs : List Ground) : Type 0 where
+pub record Says (r : Result (Unit {0}) Refusal) (gs : List Ground) : Type 0 where
   pub first : given r ≡ first gs
 
 -- 1 and 2

@@ -21,168 +21,143 @@ ghost use Rattle.planning.specs.Plans.{Says, actor_grounds, poll_asks_nothing, P
 use choosing::Choice;
 use head::Head;
 use records::Request;
-use replies::{Check, Refusal};
+use replies::Refusal;
 use rules::{Act, Ask, Priority, Slot, TaskId};
 
 // What was decided of a step.
 #[derive(Clone, Copy)]
 pub struct Plan {
-    pub check: Check,
+    pub check: Result<(), Refusal>,
     pub back: u32,
     pub ticks: bool,
     pub choice: Choice,
 }
-
-// The largest permit count.
-const LARGEST: u32 = 4_294_967_295;
 
 // ---- grounds
 // 5: a plain ask of 0, neither holding nor closed.
 fn polls_nothing(r: Request, closed: bool) -> bool
     ensures { result ≡ poll_asks_nothing (request_of r) closed }
 {
-    if r.ask.reserving {
-        return false;
-    }
-    if 0 < r.ask.asked {
-        return false;
-    }
-    if r.holding {
-        return false;
-    }
-    !closed
-}
-
-// 7, of a reserving request: ask 0, or least above ask.
-fn bad_reserving(least: u32, asked: u32) -> bool
-    ensures { result ≡ bad_reserving least asked }
-{
-    if asked == 0 {
-        return true;
-    }
-    asked < least
+    !r.ask.reserving && r.ask.asked == 0 && !(r.holding || closed)
 }
 
 // 7, of an upgrade: held 0, or wanted not above held.
 pub fn bad_upgrade(held: u32, wanted: u32) -> bool
     ensures { result ≡ bad_upgrade held wanted }
 {
-    if held == 0 {
-        return true;
-    }
-    wanted <= held
+    held == 0 || wanted <= held
 }
 
-// 10: the stock would pass the largest count. The sum is not made: it may not fit.
+// 10: the stock would pass the largest count.
 fn too_many(stock: u32, n: u32) -> bool
     ensures { result ≡ (ltb 0 n && ltb largest (stock + n)) }
 {
-    LARGEST - stock < n
+    stock.checked_add(n).is_none()
 }
 
 // ---- checks
 // 1 and 2: the actor is a task, and Runnable. They come before what is planned of the act.
-pub fn check_actor(h: Head, tasks: &[u32], me: TaskId) -> Check
+pub fn check_actor(h: Head, tasks: &[u32], me: TaskId) -> Result<(), Refusal>
     requires { (h.tasks ≤ max_tasks) × (length tasks.now ≡ max_tasks * task_words) }
     ensures { (slots : List ℕ) → Says result (actor_grounds me (plain_of h slots tasks.now)) }
 {
     if h.tasks <= me.0 as u32 {
-        return Check::Refused(Refusal::NoSuchTask);
+        return Err(Refusal::NoSuchTask);
     }
     let task = words::task_at(tasks, h.tasks, me.0 as u32);
     if !task.runnable() {
-        return Check::Refused(Refusal::NotRunnable);
+        return Err(Refusal::NotRunnable);
     }
-    Check::Accepted
+    Ok(())
 }
 
 // 8: all 32 slots in use, of the lowest that is free.
-fn check_slot(slot: usize) -> Check
+fn check_slot(slot: usize) -> Result<(), Refusal>
     ensures { Says result (8 if leb slot_count slot ∷ []) }
 {
     if 32 <= slot {
-        return Check::Refused(Refusal::NoFreeSlot);
+        return Err(Refusal::NoFreeSlot);
     }
-    Check::Accepted
+    Ok(())
 }
 
-fn check_reserving(h: Head, slot: usize, least: u32, asked: u32) -> Check
+fn check_reserving(h: Head, slot: usize, least: u32, asked: u32) -> Result<(), Refusal>
     ensures { Says result (6 if is_strict h.fairness ∷ 7 if bad_reserving least asked ∷ 8 if leb slot_count slot ∷ []) }
 {
     if h.strictly_fair() {
-        return Check::Refused(Refusal::StrictlyFair);
+        return Err(Refusal::StrictlyFair);
     }
-    if bad_reserving(least, asked) {
-        return Check::Refused(Refusal::BadCounts);
+    if records::bad_reserving(least, asked) {
+        return Err(Refusal::BadCounts);
     }
     check_slot(slot)
 }
 
-fn check_upgrade(slot: usize, held: u32, wanted: u32) -> Check
+fn check_upgrade(slot: usize, held: u32, wanted: u32) -> Result<(), Refusal>
     ensures { Says result (7 if bad_upgrade held wanted ∷ 8 if leb slot_count slot ∷ []) }
 {
     if bad_upgrade(held, wanted) {
-        return Check::Refused(Refusal::BadCounts);
+        return Err(Refusal::BadCounts);
     }
     check_slot(slot)
 }
 
 // A poll of the request that was read at the slot.
-fn check_poll(h: Head, r: Request) -> Check
+fn check_poll(h: Head, r: Request) -> Result<(), Refusal>
     ensures { (x : SlotRule) (slots tasks : List ℕ) → Stands r (get_or (slots_of slots) x.0 None) → Says result (grounds (Poll x) (plain_of h slots tasks)) }
 {
     if !r.used {
-        return Check::Refused(Refusal::NoSuchRequest);
+        return Err(Refusal::NoSuchRequest);
     }
     if r.completed {
-        return Check::Refused(Refusal::Completed);
+        return Err(Refusal::Completed);
     }
     if polls_nothing(r, h.closed) {
-        return Check::Refused(Refusal::AsksNothing);
+        return Err(Refusal::AsksNothing);
     }
-    Check::Accepted
+    Ok(())
 }
 
-fn check_try(n: u32) -> Check
+fn check_try(n: u32) -> Result<(), Refusal>
     ensures { (p : Plain) → Says result (grounds (Try n) p) }
 {
     if n == 0 {
-        return Check::Refused(Refusal::AsksNothing);
+        return Err(Refusal::AsksNothing);
     }
-    Check::Accepted
+    Ok(())
 }
 
-fn check_try_upgrade(held: u32, wanted: u32) -> Check
+fn check_try_upgrade(held: u32, wanted: u32) -> Result<(), Refusal>
     ensures { (p : Plain) → Says result (grounds (TryUpgrade held wanted) p) }
 {
     if bad_upgrade(held, wanted) {
-        return Check::Refused(Refusal::BadCounts);
+        return Err(Refusal::BadCounts);
     }
-    Check::Accepted
+    Ok(())
 }
 
-fn check_release(h: Head, n: u32) -> Check
+fn check_release(h: Head, n: u32) -> Result<(), Refusal>
     ensures { (slots tasks : List ℕ) → Says result (grounds (Release n) (plain_of h slots tasks)) }
 {
     if too_many(h.stock, n) {
-        return Check::Refused(Refusal::TooMany);
+        return Err(Refusal::TooMany);
     }
-    Check::Accepted
+    Ok(())
 }
 
 // A drop of the request that was read at the slot, by what it gives back.
-fn check_drop(h: Head, r: Request, back: u32) -> Check
+fn check_drop(h: Head, r: Request, back: u32) -> Result<(), Refusal>
     ensures { (x : SlotRule) (slots tasks : List ℕ) → Stands r (get_or (slots_of slots) x.0 None) → back ≡ gives_back x (plain_of h slots tasks) → Says result (grounds (Drop x) (plain_of h slots tasks)) }
 {
     if !r.used {
-        return Check::Refused(Refusal::NoSuchRequest);
+        return Err(Refusal::NoSuchRequest);
     }
     check_release(h, back)
 }
 
 // ---- plans
 // A request is made: nothing comes back, and nobody ticks.
-fn plan_make(check: Check, slot: usize, ask: Ask) -> Plan
+fn plan_make(check: Result<(), Refusal>, slot: usize, ask: Ask) -> Plan
     ensures { (gs : List Ground) → Says check gs → Plans result gs 0 false (Makes slot ask) }
 {
     let choice = Choice::Makes { slot, ask };
@@ -247,7 +222,7 @@ fn plan_poll(h: Head, slots: &[u32], x: Slot) -> Plan
 }
 
 // A try ticks in vain too.
-fn plan_try(h: Head, slots: &[u32], check: Check, n: u32, kind: Priority) -> Plan
+fn plan_try(h: Head, slots: &[u32], check: Result<(), Refusal>, n: u32, kind: Priority) -> Plan
     requires { (h.waiters.len ≤ slot_count) × (length slots.now ≡ slot_count * request_words) }
     ensures { (gs : List Ground) (tasks : List ℕ) → Says check gs → Plans result gs 0 true (Tries n (direct kind n (plain_of h slots.now tasks))) }
 {
@@ -300,7 +275,7 @@ fn still(choice: Choice) -> Plan
     ensures { Plans result [] 0 false choice }
 {
     Plan {
-        check: Check::Accepted,
+        check: Ok(()),
         back: 0,
         ticks: false,
         choice,

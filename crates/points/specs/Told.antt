@@ -1,5 +1,5 @@
 -- What a question is told, in the words of the rules.
-use Rattle.std.specs.Prelude.{ℕ, cond, List}
+use Rattle.std.specs.Prelude.{ℕ, Bool, cond, List, Result, Ok, Err}
 use Rattle.rules.specs.declared.TaskId.{TaskId}
 use Rattle.rules.specs.declared.Question.{Question}
 use Rattle.rules.specs.Refusals.{first}
@@ -7,17 +7,16 @@ use Rattle.rules.specs.Points.{Told as RuleTold, tell, told_of}
 use Rattle.rules.specs.Points.Told.{tells, refuses}
 use Rattle.splitting.specs.Plain.{Plain}
 use Rattle.splitting.specs.Asking.{point, point_grounds}
+use Rattle.replies.specs.declared.Refusal.{Refusal}
 use Rattle.replies.specs.Answers.{number_of}
 use Rattle.state.specs.declared.BatchSemaphore.{BatchSemaphore}
 use Rattle.state.specs.View.{Words, view_of}
 use Rattle.broken.specs.Broken.{is_broken}
-use Rattle.points.specs.declared.Told.{Told}
-use Rattle.points.specs.declared.Told.TheVariants.{Point, Refused}
 
 -- whether a point comes, or document 01's number of a refusal
-abbrev pub told_by : Told → RuleTold
-told_by (Point b) = tells b
-told_by (Refused r) = refuses (number_of r)
+abbrev pub told_by : Result Bool Refusal → RuleTold
+told_by (Ok b) = tells b
+told_by (Err r) = refuses (number_of r)
 
 -- the answer to a Runnable task
 abbrev pub answer : Question → Plain → RuleTold

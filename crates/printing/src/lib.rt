@@ -92,7 +92,7 @@ fn print_answer(buf: &mut [u8], at: usize, a: Reply) -> usize
         }
         Reply::Refused(n) => {
             let p = text::put(buf, at, b"r");
-            print_small(buf, p, replies::number(n))
+            print_small(buf, p, u8::from(n))
         }
     }
 }
@@ -186,7 +186,7 @@ fn answer_room(a: Reply) -> usize
         Reply::Closed => 6,
         Reply::NoPermits => 4,
         Reply::Made(x) => 1 + small_room(x.0),
-        Reply::Refused(n) => 1 + small_room(replies::number(n)),
+        Reply::Refused(n) => 1 + small_room(u8::from(n)),
     }
 }
 

@@ -6,6 +6,7 @@ ghost use Rattle.std.specs.Prelude.{◌≡◌, false, None, Some};
 ghost use Rattle.rules.specs.Task.{is_runnable, is_finished, roused};
 ghost use Rattle.rules.specs.Request.{is_bypassable, is_front, plain_ask, reserving_ask};
 ghost use Rattle.rules.specs.Steps.{upgrade_ask};
+ghost use Rattle.rules.specs.Refusals.{bad_reserving};
 ghost use Rattle.splitting.specs.Plain.{no_task, blocked, unblocked, wakened, slept, finished, unpolled, queued_as, held, polled_granted, polled_closed, polled_pending};
 ghost use Rattle.records.specs.View.{task_seen, seen, Stands, Changed, marking};
 
@@ -187,6 +188,13 @@ pub fn reserving_ask(least: u32, num_permits: u32) -> Ask
         kind,
         reserving: true,
     }
+}
+
+// Refusal 7 of a reserving request: an ask of 0, or a least above the ask.
+pub fn bad_reserving(least: u32, num_permits: u32) -> bool
+    ensures { result ≡ bad_reserving least num_permits }
+{
+    num_permits == 0 || num_permits < least
 }
 
 // The ask of an upgrade for the difference: in front if strictly fair, else reserving whatever there is.

@@ -1,7 +1,6 @@
 // A script walked line by line: for each line what it prints, and behind an accepted one the whole state.
 use crate::bytes;
 use arrays::{Arrays, Came};
-use points::Told;
 use printing::bit;
 use replies::Reply;
 use rules::{Act, Question, Step};
@@ -62,10 +61,7 @@ fn second_question(act: Act) -> Question {
 
 // What a question is told; a refused one stands before a refused step, whose points are not printed.
 fn answer(s: BatchSemaphore, w: Arrays, a: Step, q: Question) -> u32 {
-    match arrays::point(s, w, a.actor, q) {
-        Told::Point(b) => bit(b),
-        Told::Refused(_) => 2,
-    }
+    arrays::point(s, w, a.actor, q).map_or(2, bit)
 }
 
 // A step is taken, and what it came to is written.

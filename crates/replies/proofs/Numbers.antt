@@ -1,5 +1,5 @@
 -- Document 01's words and numbers tell apart what the code replies: no two refusals, checks or replies stand for the same.
-use Rattle.std.specs.Prelude.{Option, None, Some}
+use Rattle.std.specs.Prelude.{Option, None, Some, Result, Ok, Err}
 use Prim.Native.Nat.{ℕ}
 use mathlib.Core.Path.{◌≡◌, refl, sym, ap, ◌∙◌}
 use mathlib.Core.Bool.{cond}
@@ -8,8 +8,6 @@ use Rattle.rules.specs.Steps.{Answer}
 use Rattle.rules.specs.Steps.Answer.{done, granted, pending, closed, none_left, made, refused}
 use Rattle.replies.specs.declared.Refusal.{Refusal}
 use Rattle.replies.specs.declared.Refusal.TheVariants.{NoSuchTask, NotRunnable, NoSuchRequest, Completed, AsksNothing, StrictlyFair, BadCounts, NoFreeSlot, NoRoom, TooMany, LastTick, Broken}
-use Rattle.replies.specs.declared.Check.{Check}
-use Rattle.replies.specs.declared.Check.TheVariants.{Accepted, Refused as NotAccepted}
 use Rattle.replies.specs.declared.Reply.{Reply}
 use Rattle.replies.specs.declared.Reply.TheVariants.{Done, Granted, Pending, Closed, NoPermits, Made, Refused}
 use Rattle.replies.specs.Answers.{number_of, given, answer_of}
@@ -49,16 +47,16 @@ named-number LastTick = refl
 named-number Broken = refl
 
 -- the check that gives a number
-abbrev checked : Option ℕ → Check
-checked None = Accepted
-checked (Some n) = NotAccepted (named n)
+abbrev checked : Option ℕ → Result (Unit {0}) Refusal
+checked None = Ok (record {})
+checked (Some n) = Err (named n)
 
-pub same_check : (c d : Check) → given c ≡ given d → c ≡ d
+pub same_check : (c d : Result (Unit {0}) Refusal) → given c ≡ given d → c ≡ d
 same_check = apart given checked back
   where
-    back : (c : Check) → checked (given c) ≡ c
-    back Accepted = refl
-    back (NotAccepted r) = ap NotAccepted (named-number r)
+    back : (c : Result (Unit {0}) Refusal) → checked (given c) ≡ c
+    back (Ok u) = refl
+    back (Err r) = ap Err (named-number r)
 
 -- the reply of an answer
 abbrev replied : Answer → Reply

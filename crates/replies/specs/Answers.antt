@@ -1,11 +1,9 @@
 -- Document 01's word and number for each reply.
-use Rattle.std.specs.Prelude.{ℕ, Option, None, Some}
+use Rattle.std.specs.Prelude.{ℕ, Option, None, Some, Result, Ok, Err}
 use Rattle.rules.specs.Steps.{Answer}
 use Rattle.rules.specs.Steps.Answer.{done, granted, pending, closed, none_left, made, refused}
 use Rattle.replies.specs.declared.Refusal.{Refusal}
 use Rattle.replies.specs.declared.Refusal.TheVariants.{NoSuchTask, NotRunnable, NoSuchRequest, Completed, AsksNothing, StrictlyFair, BadCounts, NoFreeSlot, NoRoom, TooMany, LastTick, Broken}
-use Rattle.replies.specs.declared.Check.{Check}
-use Rattle.replies.specs.declared.Check.TheVariants.{Accepted, Refused as NotAccepted}
 use Rattle.replies.specs.declared.Reply.{Reply}
 use Rattle.replies.specs.declared.Reply.TheVariants.{Done, Granted, Pending, Closed, NoPermits, Made, Refused}
 
@@ -25,9 +23,9 @@ number_of LastTick = 11
 number_of Broken = 14
 
 -- the number that is given, if one is
-abbrev pub given : Check → Option ℕ
-given Accepted = None
-given (NotAccepted r) = Some (number_of r)
+abbrev pub given : Result (Unit {0}) Refusal → Option ℕ
+given (Ok u) = None
+given (Err r) = Some (number_of r)
 
 -- document 01's answers: `done`, `granted`, `pending`, `closed`, `none`, `s` and slot, `r` and refusal
 abbrev pub answer_of : Reply → Answer

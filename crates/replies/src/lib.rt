@@ -1,12 +1,12 @@
 // What a call replies: document 01's answers, and its refusals by name.
 #![tactic(auto)]
 
-ghost use Rattle.std.specs.Prelude.{◌≡◌, not, is_some};
-ghost use Rattle.replies.specs.Answers.{number_of, given};
+ghost use Rattle.std.specs.Prelude.{◌≡◌};
+ghost use Rattle.replies.specs.Answers.{number_of};
 
 use rules::Slot;
 
-// A refusal, named; document 01's number for each is `number`.
+// A refusal, named; as a `u8` it is document 01's number.
 #[derive(Clone, Copy)]
 pub enum Refusal {
     NoSuchTask,
@@ -23,13 +23,6 @@ pub enum Refusal {
     Broken,
 }
 
-// Whether a step is refused, and why.
-#[derive(Clone, Copy)]
-pub enum Check {
-    Accepted,
-    Refused(Refusal),
-}
-
 #[derive(Clone, Copy)]
 pub enum Reply {
     Done,
@@ -41,31 +34,23 @@ pub enum Reply {
     Refused(Refusal),
 }
 
-// Document 01's number.
-pub fn number(r: Refusal) -> u8
-    ensures { result ≡ number_of r }
-{
-    match r {
-        Refusal::NoSuchTask => 1,
-        Refusal::NotRunnable => 2,
-        Refusal::NoSuchRequest => 3,
-        Refusal::Completed => 4,
-        Refusal::AsksNothing => 5,
-        Refusal::StrictlyFair => 6,
-        Refusal::BadCounts => 7,
-        Refusal::NoFreeSlot => 8,
-        Refusal::NoRoom => 9,
-        Refusal::TooMany => 10,
-        Refusal::LastTick => 11,
-        Refusal::Broken => 14,
-    }
-}
+impl From<Refusal> for u8 {
+    ghost from_gives = { λ r n. n ≡ number_of r };
 
-pub fn is_accepted(c: Check) -> bool
-    ensures { result ≡ not (is_some (given c)) }
-{
-    match c {
-        Check::Accepted => true,
-        Check::Refused(_) => false,
+    fn from(r: Refusal) -> u8 {
+        match r {
+            Refusal::NoSuchTask => 1,
+            Refusal::NotRunnable => 2,
+            Refusal::NoSuchRequest => 3,
+            Refusal::Completed => 4,
+            Refusal::AsksNothing => 5,
+            Refusal::StrictlyFair => 6,
+            Refusal::BadCounts => 7,
+            Refusal::NoFreeSlot => 8,
+            Refusal::NoRoom => 9,
+            Refusal::TooMany => 10,
+            Refusal::LastTick => 11,
+            Refusal::Broken => 14,
+        }
     }
 }

@@ -1,4 +1,5 @@
 -- A step that was planned and that no refusal is met by: what its parts ask, and what they come to together.
+use Rattle.std.specs.Prelude.{Option, None, Some}
 use Prim.Native.Nat.{ℕ}
 use mathlib.Core.Path.{◌≡◌, refl, sym, ap, subst, ◌∙◌}
 use mathlib.Core.Bool.{Bool, true}
@@ -23,8 +24,6 @@ use Rattle.choosing.specs.declared.Choice.{Choice}
 use Rattle.choosing.specs.Choice.{effect_by, moves_in}
 use Rattle.choosing.proofs.Chosen.{effect_chosen, none_back}
 use Rattle.planning.specs.declared.Plan.{Plan}
-use Rattle.resting.specs.declared.Rest.{Rest}
-use Rattle.resting.specs.declared.Rest.TheVariants.{Moves, Rests}
 use Rattle.resting.specs.Resting.{Rested, RestsBy, HasSlot}
 use Rattle.resting.proofs.Allowing.{has_slot}
 use Rattle.resting.proofs.Rested.{moves_so, rests_so, rests-answer}
@@ -76,8 +75,8 @@ module _ (s : BatchSemaphore) (w : Words) (gs : List ℕ) (a : Step) (l : Plan) 
   pub slot-there : HasSlot l.choice
   slot-there = has_slot a p l.choice (plain_accepts s w gs due.fit a due.unrefused) due.planned.choice
 
-  module _ (r : Rest) (ss ts : List ℕ) (by : RestsBy a.actor l.choice s.head.tasks r ss ts w.slots w.tasks) where
-    module _ (y : Reply) (said : r ≡ Rests y) where
+  module _ (r : Option Reply) (ss ts : List ℕ) (by : RestsBy a.actor l.choice s.head.tasks r ss ts w.slots w.tasks) where
+    module _ (y : Reply) (said : r ≡ Some y) where
       rested : Rested y s.head ss ts (W.effect a p)
       rested = subst (Rested y s.head ss ts) chosen (by.rests y said s.head refl due.fit.shaped.head)
 
@@ -109,7 +108,7 @@ module _ (s : BatchSemaphore) (w : Words) (gs : List ℕ) (a : Step) (l : Plan) 
             (taken (record { reply = y; count = 0; head = s.head }) s.batches v gs answers when refl refl refl em ec refl)
 
     -- ---- one that was left as it was
-    module _ (said : r ≡ Moves) where
+    module _ (said : r ≡ None) where
       abbrev same : Words
       same = words ss ts w.sizes w.rows w.last w.makers w.clocks
 

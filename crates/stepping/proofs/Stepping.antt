@@ -1,9 +1,8 @@
 -- Each way out of a step that counts on a fit state: refused, or taken.
-use Rattle.std.specs.Prelude.{Option, None, Some, is_some}
+use Rattle.std.specs.Prelude.{Option, None, Some, Result, Ok, Err}
 use Rattle.std.proofs.lemmas.Option.{none-some}
 use Prim.Native.Nat.{ℕ}
-use mathlib.Core.Path.{◌≡◌, refl, sym, ap, subst, ◌∙◌}
-use mathlib.Core.Bool.{Bool, true, false, not}
+use mathlib.Core.Path.{◌≡◌, refl, sym, ap, ◌∙◌}
 use mathlib.Core.List.{List}
 use native.Mathlib.Omega.{arith}
 use Rattle.rules.specs.declared.Step.{Step}
@@ -14,11 +13,9 @@ use Rattle.splitting.specs.Who as W
 use Rattle.splitting.specs.Times.{known}
 use Rattle.splitting.specs.Kept.{Kept}
 use Rattle.splitting.specs.Parts.{or_else}
-use Rattle.replies.specs.declared.Check.{Check}
-use Rattle.replies.specs.declared.Check.TheVariants.{Accepted, Refused as CheckRefused}
 use Rattle.replies.specs.declared.Refusal.{Refusal}
-use Rattle.replies.specs.declared.Reply.TheVariants.{Done, Refused}
-use Rattle.replies.specs.Answers.{given}
+use Rattle.replies.specs.declared.Reply.TheVariants.{Refused}
+use Rattle.replies.specs.Answers.{number_of, given}
 use Rattle.planning.specs.declared.Plan.{Plan}
 use Rattle.planning.specs.Plans.{actor_grounds, Planned}
 use Rattle.planning.proofs.Composing.{first-after}
@@ -26,19 +23,11 @@ use Rattle.times.specs.View.{refusal_kept}
 use Rattle.state.specs.declared.BatchSemaphore.{BatchSemaphore}
 use Rattle.state.specs.declared.Stepped.{Stepped}
 use Rattle.state.specs.View.{Words, plain_in, kept_in, view_of, Fit}
-use Rattle.stepping.specs.Contract.{NotAccepted, Checks, Taken, StepsOn}
+use Rattle.stepping.specs.Contract.{Checks, Taken, StepsOn}
 use Rattle.stepping.proofs.Composed.{refusal_both}
-use Rattle.stepping.proofs.Checked.{is_some_lem, is_none}
 
 one_number : {m n : ℕ} → ◌≡◌ {A = Option ℕ} (Some m) (Some n) → m ≡ n
 one_number e = cc
-
--- a check that was not accepted gives its number back
-pub refused_as : (c : Check) (q : Refusal) (s : BatchSemaphore) → c ≡ CheckRefused q → NotAccepted c s (record { reply = Refused q; count = 0; state = s })
-refused_as c q s e = record { answer = λ n g. ap (λ (m : ℕ). refused m) (one_number (sym (ap given e) ∙ g)); count = refl; state = refl }
-
-pub accepted_as : (c : Check) (s : BatchSemaphore) → c ≡ Accepted → NotAccepted c s (record { reply = Done; count = 0; state = s })
-accepted_as c s e = record { answer = λ n g. absurd (none-some n (sym (ap given e) ∙ g)); count = refl; state = refl }
 
 or_else_again : (a b d : Option ℕ) → or_else a (or_else b d) ≡ or_else (or_else a b) d
 or_else_again None b d = refl
@@ -52,7 +41,7 @@ module _ (s : BatchSemaphore) (w : Words) (gs : List ℕ) (f : Fit s w gs) (a : 
   k = kept_in s w
 
   -- what the check says is the rules' first refusal
-  pub checked_whole : (c : Check) (l : Plan) → Checks c s w.tasks w.clocks a.actor l → Planned l a.act p → given c ≡ refusal a (view_of s w)
+  pub checked_whole : (c : Result (Unit {0}) Refusal) (l : Plan) → Checks c s w.tasks w.clocks a.actor l → Planned l a.act p → given c ≡ refusal a (view_of s w)
   unfolding W.refusal known
   checked_whole c l h q =
       h w refl refl
@@ -61,26 +50,21 @@ module _ (s : BatchSemaphore) (w : Words) (gs : List ℕ) (f : Fit s w gs) (a : 
       ∙ ap (λ (o : Option ℕ). or_else o (refusal_kept a.actor (known a p) k)) (sym (first-after (actor_grounds a.actor p) (W.grounds a.act p)))
       ∙ sym (refusal_both s w gs f a)
 
-  module _ (c : Check) (says : given c ≡ refusal a (view_of s w)) (b : Bool) (told : b ≡ not (is_some (given c))) where
-    pub refused_steps : (r : Stepped) → not b ≡ true → NotAccepted c s r → StepsOn s w gs a r w gs
-    refused_steps r n q =
+  module _ (c : Result (Unit {0}) Refusal) (says : given c ≡ refusal a (view_of s w)) where
+    pub refused_steps : (why : Refusal) → c ≡ Err why → StepsOn s w gs a (record { reply = Refused why; count = 0; state = s }) w gs
+    refused_steps why e =
+        let met : Some (number_of why) ≡ refusal a (view_of s w) = ap given (sym e) ∙ says in
         record {
-          refused = λ m e. record { answer = q.answer m (says ∙ e); count = q.count; state = q.state; words = refl; grants = refl };
-          accepted = λ e. absurd_by (given c) (says ∙ e) (is_some_lem (given c) b told n);
-          fit = subst (λ (z : BatchSemaphore). Fit z w gs) (sym q.state) f;
-          few = omega (arith, q.count);
+          refused = λ m n. record { answer = ap (λ (k : ℕ). refused k) (one_number (met ∙ n)); count = refl; state = refl; words = refl; grants = refl };
+          accepted = λ n. absurd (none-some (number_of why) (sym (met ∙ n)));
+          fit = f;
+          few = omega arith;
         }
-      where
-        absurd_by : {X : Type 0} (o : Option ℕ) → o ≡ None → is_some o ≡ true → X
-        absurd_by o e h = let z : is_some {T = ℕ} None ≡ true = subst (λ (q : Option ℕ). is_some q ≡ true) e h in absurd (false-true z)
-          where
-            false-true : false ≡ true → ⊥
-            false-true e = let z : ◌≡◌ {A = ℕ} 0 1 = cc in omega arith
 
-    pub no_refusal : not b ≡ false → refusal a (view_of s w) ≡ None
-    no_refusal n = sym says ∙ is_none (given c) b told n
+    pub no_refusal : c ≡ Ok (record {}) → refusal a (view_of s w) ≡ None
+    no_refusal e = sym says ∙ ap given e
 
-    pub taken_steps : (r : Stepped) (v : Words) (hs : List ℕ) → not b ≡ false → Taken s w a r v hs → StepsOn s w gs a r v hs
+    pub taken_steps : (r : Stepped) (v : Words) (hs : List ℕ) → c ≡ Ok (record {}) → Taken s w a r v hs → StepsOn s w gs a r v hs
     taken_steps r v hs n q =
         record {
           refused = λ m e. absurd (none-some m (sym (no_refusal n) ∙ e));

@@ -1,5 +1,5 @@
 -- What every call owes: refusals by number with the very struct and the very words handed in, and else the outcome of document 01's step.
-use Rattle.std.specs.Prelude.{ℕ, ◌≤◌, ◌≡◌, List, Option, None, Some}
+use Rattle.std.specs.Prelude.{ℕ, ◌≤◌, ◌≡◌, List, Option, None, Some, Result}
 use Rattle.rules.specs.declared.TaskId.{TaskId}
 use Rattle.rules.specs.declared.Step.{Step}
 use Rattle.rules.specs.Sizes.{slot_count}
@@ -7,7 +7,7 @@ use Rattle.rules.specs.Steps.{effect}
 use Rattle.rules.specs.Steps.Answer.{refused}
 use Rattle.rules.specs.Refusals.{first, refusal}
 use Rattle.splitting.specs.Parts.{or_else}
-use Rattle.replies.specs.declared.Check.{Check}
+use Rattle.replies.specs.declared.Refusal.{Refusal}
 use Rattle.replies.specs.declared.Reply.{Reply}
 use Rattle.replies.specs.Answers.{given, answer_of}
 use Rattle.planning.specs.declared.Plan.{Plan}
@@ -52,12 +52,6 @@ pub record RestTaken (s : BatchSemaphore) (a : Step) (y : Reply) (r : Stepped) (
   pub stepped : r ≡ record { reply = y; count = 0; state = s }
   pub times : RestsInTimes a (answer_of y) last makers clocks makers₀ clocks₀
 
--- a step that a check did not accept
-pub record NotAccepted (c : Check) (s : BatchSemaphore) (r : Stepped) : Type 0 where
-  pub answer : (n : ℕ) → given c ≡ Some n → answer_of r.reply ≡ refused n
-  pub count : r.count ≡ 0
-  pub state : r.state ≡ s
-
 -- the actor's refusals, then those planned, then those of when
 abbrev pub checked_as : BatchSemaphore → Words → TaskId → Plan → Option ℕ
 checked_as s w t p =
@@ -65,5 +59,5 @@ checked_as s w t p =
     (or_else (given p.check) (refusal_kept t (record { stock = s.head.stock; back = p.back; ticks = p.ticks }) (kept_in s w)))
 
 -- a check, for whatever stands in the words that it is not lent
-abbrev pub Checks : Check → BatchSemaphore → List ℕ → List ℕ → TaskId → Plan → Type 0
+abbrev pub Checks : Result (Unit {0}) Refusal → BatchSemaphore → List ℕ → List ℕ → TaskId → Plan → Type 0
 Checks r s ts cs t p = (w : Words) → w.tasks ≡ ts → w.clocks ≡ cs → given r ≡ checked_as s w t p

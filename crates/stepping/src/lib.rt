@@ -6,53 +6,44 @@
 ghost use Rattle.std.specs.Prelude.{◌≡◌, true, ◌*◌, ◌≤◌, length};
 ghost use Rattle.rules.specs.Sizes.{max_tasks, slot_count, width};
 ghost use Rattle.words.specs.View.{task_words};
+ghost use Rattle.replies.specs.declared.Reply.TheVariants.{Refused};
 ghost use Rattle.replies.specs.Answers.{answer_of};
 ghost use Rattle.splitting.specs.Times.{timing_of};
 ghost use Rattle.times.specs.View.{AbleAtRest};
 ghost use Rattle.choosing.specs.Choice.{moves_in};
 ghost use Rattle.state.specs.View.{words, Fit};
-ghost use Rattle.stepping.specs.Contract.{NotAccepted, Checks, Due, RestTaken, Taken, StepsOn};
+ghost use Rattle.stepping.specs.Contract.{Checks, Due, RestTaken, Taken, StepsOn};
 
 use planning::Plan;
-use replies::{Check, Reply};
-use resting::Rest;
+use replies::{Refusal, Reply};
 use rules::{Step, TaskId};
 use state::{BatchSemaphore, Stepped};
 
-// A step that was checked and not accepted.
-fn refuse(s: BatchSemaphore, c: Check) -> Stepped
-    ensures { NotAccepted c s result }
+// A step that is refused: the very struct that came in.
+fn refuse(s: BatchSemaphore, why: Refusal) -> Stepped
+    ensures { result ≡ record { reply = Refused why; count = 0; state = s } }
 {
-    match c {
-        Check::Accepted => Stepped {
-            reply: Reply::Done,
-            count: 0,
-            state: s,
-        },
-        Check::Refused(why) => Stepped {
-            reply: Reply::Refused(why),
-            count: 0,
-            state: s,
-        },
+    Stepped {
+        reply: Reply::Refused(why),
+        count: 0,
+        state: s,
     }
 }
 
 // The first refusal of a step that was planned: the actor's, then what the plan met, then those of when.
-fn check(s: BatchSemaphore, tasks: &[u32], clocks: &[u32], me: TaskId, plan: Plan) -> Check
+fn check(
+    s: BatchSemaphore,
+    tasks: &[u32],
+    clocks: &[u32],
+    me: TaskId,
+    plan: Plan,
+) -> Result<(), Refusal>
     requires { (s.head.tasks ≤ max_tasks) × (length tasks.now ≡ max_tasks * task_words) × (length clocks.now ≡ max_tasks * width) }
     ensures { Checks result s tasks.now clocks.now me plan }
 {
-    let head = s.head;
-    let actor = planning::check_actor(head, tasks, me);
-    if !replies::is_accepted(actor) {
-        return actor;
-    }
-    let planned = plan.check;
-    if !replies::is_accepted(planned) {
-        return planned;
-    }
-    let batches = s.batches;
-    times::times_refusal(batches, clocks, me, plan.back, plan.ticks)
+    planning::check_actor(s.head, tasks, me)?;
+    plan.check?;
+    times::times_refusal(s.batches, clocks, me, plan.back, plan.ticks)
 }
 
 // The times of a step that leaves the head as it is, and whose effect is done.
@@ -130,13 +121,11 @@ fn accept(
     requires { Due s (words slots.old tasks.old sizes.old rows.old last.old makers.old clocks.old) grants.old a plan }
     ensures { Taken s (words slots.old tasks.old sizes.old rows.old last.old makers.old clocks.old) a result (words slots.new tasks.new sizes.new rows.new last.new makers.new clocks.new) grants.new }
 {
-    let choice = plan.choice;
-    let rested = resting::effect_at_rest(slots, tasks, s.head.tasks, a.actor, choice);
-    match rested {
-        Rest::Moves => carry_out(
+    match resting::effect_at_rest(slots, tasks, s.head.tasks, a.actor, plan.choice) {
+        Some(reply) => rest(s, last, makers, clocks, a, reply),
+        None => carry_out(
             s, slots, tasks, sizes, rows, last, makers, clocks, grants, a, plan,
         ),
-        Rest::Rests(reply) => rest(s, last, makers, clocks, a, reply),
     }
 }
 
@@ -156,14 +145,11 @@ pub fn step_on(
     requires { Fit s (words slots.old tasks.old sizes.old rows.old last.old makers.old clocks.old) grants.old }
     ensures { StepsOn s (words slots.old tasks.old sizes.old rows.old last.old makers.old clocks.old) grants.old a result (words slots.new tasks.new sizes.new rows.new last.new makers.new clocks.new) grants.new }
 {
-    let head = s.head;
-    let act = a.act;
-    let plan = planning::plan_act(head, slots, act);
-    let checked = check(s, tasks, clocks, a.actor, plan);
-    if !replies::is_accepted(checked) {
-        return refuse(s, checked);
+    let plan = planning::plan_act(s.head, slots, a.act);
+    match check(s, tasks, clocks, a.actor, plan) {
+        Ok(()) => accept(
+            s, slots, tasks, sizes, rows, last, makers, clocks, grants, a, plan,
+        ),
+        Err(why) => refuse(s, why),
     }
-    accept(
-        s, slots, tasks, sizes, rows, last, makers, clocks, grants, a, plan,
-    )
 }

@@ -1,19 +1,15 @@
 -- What the actor does, put together from its parts.
-use Rattle.std.specs.Prelude.{None, Some}
 use Prim.Native.Nat.{ℕ, zero, suc, ◌≤◌, ◌<◌}
 use native.Mathlib.Omega.{arith}
 use mathlib.Core.Path.{◌≡◌}
-use mathlib.Core.Bool.{Bool, true, false, ◌&&◌}
 use mathlib.Core.List.{List, [], ◌∷◌, ◌++◌}
 use borrow.Author.Tests.{eq-eqb, ne_eqb}
-use lib.Dec.{leb, ltb}
 use lib.ListN.{get_or, set}
 use lib.Seq.{get_or-set_same}
 use Rattle.rules.specs.declared.TaskId.{TaskId}
-use Rattle.rules.specs.Sizes.{width, max_tasks, largest}
+use Rattle.rules.specs.Sizes.{width, max_tasks}
 use Rattle.rules.specs.Clock.{join, tick, empty}
 use Rattle.rules.specs.Taking.{eat, standing_of}
-use Rattle.rules.specs.Refusals.{full}
 use Rattle.splitting.specs.Kept.{Kept, taking, take_each, fail_try, release}
 use Rattle.clock.specs.declared.VectorClock.{VectorClock}
 use Rattle.batches.specs.declared.Batches.{Batches}
@@ -23,7 +19,7 @@ use Rattle.batches.specs.View.{stands_in, WellFormed, Stood, Took}
 use Rattle.words.specs.declared.GrantWords.{GrantWords}
 use Rattle.tables.specs.Table.{table}
 use Rattle.words.specs.View.{grant_words_in, grants_of}
-use Rattle.times.specs.View.{clocks_at, clock_in, kept_of, Shows, Ticked, taken_as, refusal_kept}
+use Rattle.times.specs.View.{clocks_at, clock_in, kept_of, Shows, Ticked, taken_as}
 use Rattle.times.proofs.Clocks.{clocks-length}
 
 module _ (b : Batches) (sizes rows last makers clocks : List ℕ) (k : ℕ) (t : TaskId) where
@@ -84,16 +80,3 @@ module _ (b : Batches) (sizes rows last makers clocks : List ℕ) (k : ℕ) (t :
       }
 
 -- 9 and 11
-
-module _ (b : Batches) (clocks : List ℕ) (t : TaskId) (n : ℕ) (f : Bool) (k : ℕ) (sizes rows last makers : List ℕ) (p : Bool) (no_room : p ≡ (ltb 0 n && full (stands_in b sizes rows))) where
-  pub is_nine : p ≡ true → Some 9 ≡ refusal_kept t (record { stock = k; back = n; ticks = f }) (kept_of b sizes rows last makers clocks)
-  unfolding refusal_kept
-  is_nine e = rw (← no_room, e)
-
-  pub is_eleven : (q : Bool) → q ≡ (f && leb largest (get_or (clock_in max_tasks clocks t.0) t.0 0)) → p ≡ false → q ≡ true → Some 11 ≡ refusal_kept t (record { stock = k; back = n; ticks = f }) (kept_of b sizes rows last makers clocks)
-  unfolding refusal_kept
-  is_eleven q h e d = rw (← no_room, e, ← h, d)
-
-  pub is_accepted : (q : Bool) → q ≡ (f && leb largest (get_or (clock_in max_tasks clocks t.0) t.0 0)) → p ≡ false → q ≡ false → None ≡ refusal_kept t (record { stock = k; back = n; ticks = f }) (kept_of b sizes rows last makers clocks)
-  unfolding refusal_kept
-  is_accepted q h e d = rw (← no_room, e, ← h, d)

@@ -17,7 +17,7 @@ ghost use Rattle.times.specs.View.{Able, taken_as, is_failed, refusal_kept, cloc
 
 use batches::Batches;
 use clock::VectorClock;
-use replies::{Check, Refusal, Reply};
+use replies::{Refusal, Reply};
 use rules::{Act, Step, TaskId};
 use splitting::Timing;
 use words::GrantWords;
@@ -242,17 +242,23 @@ fn last_tick(clocks: &[u32], me: TaskId, ticks: bool) -> bool
 }
 
 // 9, then 11, for a step that gives so many back, and whose actor ticks or not.
-pub fn times_refusal(b: Batches, clocks: &[u32], me: TaskId, back: u32, ticks: bool) -> Check
+pub fn times_refusal(
+    b: Batches,
+    clocks: &[u32],
+    me: TaskId,
+    back: u32,
+    ticks: bool,
+) -> Result<(), Refusal>
     requires { length clocks.now ≡ max_tasks * width }
     ensures { (k : ℕ) (sizes rows last makers : List ℕ) → given result ≡ refusal_kept me (record { stock = k; back = back; ticks = ticks }) (kept_of b sizes rows last makers clocks.now) }
 {
     if no_room(b, back) {
-        return Check::Refused(Refusal::NoRoom);
+        return Err(Refusal::NoRoom);
     }
     if last_tick(clocks, me, ticks) {
-        return Check::Refused(Refusal::LastTick);
+        return Err(Refusal::LastTick);
     }
-    Check::Accepted
+    Ok(())
 }
 
 // ---- a step

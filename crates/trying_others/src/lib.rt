@@ -9,11 +9,11 @@ ghost use Rattle.trace.specs.Running.{Prints};
 ghost use Rattle.arrays.specs.Arrays.{words_in};
 
 use arrays::{Arrays, StartedArrays};
-use points::Told;
+use replies::Refusal;
 use rules::{Fairness, Question, TaskId};
 use state::BatchSemaphore;
 
-pub fn point(s: BatchSemaphore, w: Arrays, me: TaskId, q: Question) -> Told
+pub fn point(s: BatchSemaphore, w: Arrays, me: TaskId, q: Question) -> Result<bool, Refusal>
     ensures { told_by result ≡ answer_to s (words_in w) w.grants me q }
 {
     arrays::point(s, w, me, q)

@@ -1,5 +1,5 @@
 -- A step put together: refused by the actor's grounds, by the act's, or carried out.
-use Rattle.std.specs.Prelude.{Option, None, Some}
+use Rattle.std.specs.Prelude.{Option, None, Some, Result, Ok, Err}
 use Prim.Native.Nat.{ℕ}
 use native.Mathlib.Omega.{arith}
 use mathlib.Core.Path.{◌≡◌, refl, sym, ap, subst, ◌∙◌}
@@ -14,8 +14,6 @@ use Rattle.splitting.specs.Who as W
 use Rattle.splitting.specs.Fitness.{SoundPlain}
 use Rattle.splitting.proofs.Fitness.{sound-plain-effect}
 use Rattle.replies.specs.declared.Refusal.{Refusal}
-use Rattle.replies.specs.declared.Check.{Check}
-use Rattle.replies.specs.declared.Check.TheVariants.{Accepted, Refused as NotAccepted}
 use Rattle.replies.specs.declared.Reply.{Reply}
 use Rattle.replies.specs.declared.Reply.TheVariants.{Refused}
 use Rattle.replies.specs.Answers.{number_of, given, answer_of}
@@ -27,8 +25,6 @@ use Rattle.choosing.specs.Choice.{effect_by, moves_in}
 use Rattle.choosing.proofs.Chosen.{effect_chosen}
 use Rattle.planning.specs.declared.Plan.{Plan}
 use Rattle.planning.specs.Plans.{Says, actor_grounds, Planned}
-use Rattle.resting.specs.declared.Rest.{Rest}
-use Rattle.resting.specs.declared.Rest.TheVariants.{Moves, Rests}
 use Rattle.resting.specs.Resting.{RestsBy, HasSlot}
 use Rattle.resting.proofs.Allowing.{has_slot}
 use Rattle.resting.proofs.Rested.{moves_so, rests-answer}
@@ -77,21 +73,21 @@ module _ (h : Head) (ss ts gs : List ℕ) (d : Ready h ss ts) (r : Answered) (wh
       }
 
   -- by the actor's grounds
-  pub refused-actor : (a : Step) (c : Check) → ((slots : List ℕ) → Says c (actor_grounds a.actor (plain_of h slots ts))) → c ≡ NotAccepted why → Steps r ss ts gs a h ss ts gs
+  pub refused-actor : (a : Step) (c : Result (Unit {0}) Refusal) → ((slots : List ℕ) → Says c (actor_grounds a.actor (plain_of h slots ts))) → c ≡ Err why → Steps r ss ts gs a h ss ts gs
   refused-actor a c k e = stays a (at_actor a.actor a.act (plain_of h ss ts) (number_of why) (sym (k ss).first ∙ ap given e))
 
   -- by the act's
-  pub refused_act : (t : TaskId) (a : Act) (p : Plan) → first (actor_grounds t (plain_of h ss ts)) ≡ None → ((tasks : List ℕ) → Planned p a (plain_of h ss tasks)) → p.check ≡ NotAccepted why
+  pub refused_act : (t : TaskId) (a : Act) (p : Plan) → first (actor_grounds t (plain_of h ss ts)) ≡ None → ((tasks : List ℕ) → Planned p a (plain_of h ss tasks)) → p.check ≡ Err why
       → Steps r ss ts gs (record { actor = t; act = a }) h ss ts gs
   refused_act t a p f k e =
       stays (record { actor = t; act = a }) (past_actor t a (plain_of h ss ts) f ∙ sym (k ts).check ∙ ap given e)
 
 -- ---- carried out
-pub actor-passes : (h : Head) (ss ts : List ℕ) (t : TaskId) (c : Check) → ((slots : List ℕ) → Says c (actor_grounds t (plain_of h slots ts))) → c ≡ Accepted → first (actor_grounds t (plain_of h ss ts)) ≡ None
+pub actor-passes : (h : Head) (ss ts : List ℕ) (t : TaskId) (c : Result (Unit {0}) Refusal) → ((slots : List ℕ) → Says c (actor_grounds t (plain_of h slots ts))) → c ≡ Ok (record {}) → first (actor_grounds t (plain_of h ss ts)) ≡ None
 actor-passes h ss ts t c k e = sym (k ss).first ∙ ap given e
 
 module _ (h : Head) (ss ts : List ℕ) (d : Ready h ss ts) (t : TaskId) (a : Act) (p : Plan) (f : first (actor_grounds t (plain_of h ss ts)) ≡ None)
-    (k : (tasks : List ℕ) → Planned p a (plain_of h ss tasks)) (e : p.check ≡ Accepted) where
+    (k : (tasks : List ℕ) → Planned p a (plain_of h ss tasks)) (e : p.check ≡ Ok (record {})) where
   unrefused : W.refusal (record { actor = t; act = a }) (plain_of h ss ts) ≡ None
   unrefused = past_actor t a (plain_of h ss ts) f ∙ sym (k ts).check ∙ ap given e
 
@@ -118,13 +114,13 @@ module _ (h : Head) (ss ts : List ℕ) (d : Ready h ss ts) (t : TaskId) (a : Act
       }
 
 -- ---- what rests, and what moves: words that are as they were
-module _ (t : TaskId) (c : Choice) (h : Head) (ss ts : List ℕ) (s : Shaped h ss ts) (r : Rest) (ss' ts' : List ℕ) (by : RestsBy t c h.tasks r ss' ts' ss ts) where
-  pub rests : (y : Reply) → r ≡ Rests y → (d : Answered) (gs : List ℕ) → d ≡ record { reply = y; count = 0; head = h } → Answers d ss' ts' gs (effect_by t c (plain_of h ss ts))
+module _ (t : TaskId) (c : Choice) (h : Head) (ss ts : List ℕ) (s : Shaped h ss ts) (r : Option Reply) (ss' ts' : List ℕ) (by : RestsBy t c h.tasks r ss' ts' ss ts) where
+  pub rests : (y : Reply) → r ≡ Some y → (d : Answered) (gs : List ℕ) → d ≡ record { reply = y; count = 0; head = h } → Answers d ss' ts' gs (effect_by t c (plain_of h ss ts))
   rests y e d gs q =
       subst (λ (d : Answered). Answers d ss' ts' gs (effect_by t c (plain_of h ss ts))) (sym q)
       (rests-answer t c h.tasks r ss' ts' ss ts by y e h refl s gs)
 
-  module _ (e : r ≡ Moves) where
+  module _ (e : r ≡ None) where
     as_it_was : (P : List ℕ → List ℕ → Type 0) → P ss ts → P ss' ts'
     as_it_was P x = let q = by.still e in subst (λ (us : List ℕ). P us ts') (sym q.0) (subst (P ss) (sym q.1) x)
 

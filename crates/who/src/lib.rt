@@ -14,8 +14,7 @@ ghost use Rattle.who.specs.Steps.{Ready, Steps};
 
 use choosing::Choice;
 use head::{Answered, Head};
-use replies::{Check, Refusal, Reply};
-use resting::Rest;
+use replies::{Refusal, Reply};
 use rules::{Act, Step, TaskId};
 
 // A reply without grants, and the head as it is.
@@ -33,8 +32,7 @@ fn stay(h: Head, reply: Reply) -> Answered
 fn refuse(h: Head, why: Refusal) -> Answered
     ensures { result ≡ record { reply = Refused why; count = 0; head = h } }
 {
-    let reply = Reply::Refused(why);
-    stay(h, reply)
+    stay(h, Reply::Refused(why))
 }
 
 // The effect of what a step comes to: at rest, or else by what moves.
@@ -49,10 +47,9 @@ fn effect(
     requires { (Shaped h slots.old tasks.old) × (length grants.old ≡ slot_count * 3) × (HasSlot c) × (Able c (plain_of h slots.old tasks.old)) }
     ensures { Answers result slots.new tasks.new grants.new (effect_by me c (plain_of h slots.old tasks.old)) }
 {
-    let rested = resting::effect_at_rest(slots, tasks, h.tasks, me, c);
-    match rested {
-        Rest::Moves => doing::effect(h, slots, tasks, grants, me, c),
-        Rest::Rests(reply) => stay(h, reply),
+    match resting::effect_at_rest(slots, tasks, h.tasks, me, c) {
+        Some(reply) => stay(h, reply),
+        None => doing::effect(h, slots, tasks, grants, me, c),
     }
 }
 
@@ -69,11 +66,9 @@ fn carry_out(
     ensures { Steps result slots.new tasks.new grants.new (record { actor = me; act = act }) h slots.old tasks.old grants.old }
 {
     let plan = planning::plan_act(h, slots, act);
-    let check = plan.check;
-    let choice = plan.choice;
-    match check {
-        Check::Refused(why) => refuse(h, why),
-        Check::Accepted => effect(h, slots, tasks, grants, me, choice),
+    match plan.check {
+        Ok(()) => effect(h, slots, tasks, grants, me, plan.choice),
+        Err(why) => refuse(h, why),
     }
 }
 
@@ -82,11 +77,8 @@ pub fn step(h: Head, slots: &mut [u32], tasks: &mut [u32], grants: &mut [u32], a
     requires { (Ready h slots.old tasks.old) × (length grants.old ≡ slot_count * 3) }
     ensures { Steps result slots.new tasks.new grants.new a h slots.old tasks.old grants.old }
 {
-    let me = a.actor;
-    let act = a.act;
-    let check = planning::check_actor(h, tasks, me);
-    match check {
-        Check::Refused(why) => refuse(h, why),
-        Check::Accepted => carry_out(h, slots, tasks, grants, me, act),
+    match planning::check_actor(h, tasks, a.actor) {
+        Ok(()) => carry_out(h, slots, tasks, grants, a.actor, a.act),
+        Err(why) => refuse(h, why),
     }
 }

@@ -7,8 +7,5 @@ use Rattle.planning.proofs.check_actor.Goals as goal
 pub returns-then-h-me : goal.returns-then-h-me
 returns-then-h-me c = search (given_here, is_past, rules)
 
-pub returns-then-not-runnable : goal.returns-then-not-runnable
-returns-then-not-runnable c = search (not_here, is_within, given_here, runs_read, rules)
-
 pub returns : goal.returns
 returns c = search (not_here, is_within, none_given, runs_read, rules)

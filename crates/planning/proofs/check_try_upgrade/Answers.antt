@@ -1,14 +1,12 @@
 -- 7.
 use Rattle.splitting.specs.Who.{grounds}
-use Rattle.planning.proofs.Composing.{given_here, not_here, none_given}
-use Rattle.planning.proofs.Grounds.{the_same}
 use borrow.Author.Rules.{rules}
 use Rattle.planning.proofs.check_try_upgrade.Goals as goal
 
 pub returns-then-bad_upgrade : goal.returns-then-bad_upgrade
 unfolding grounds
-returns-then-bad_upgrade c = search (given_here, the_same, rules)
+returns-then-bad_upgrade c = search rules
 
 pub returns : goal.returns
 unfolding grounds
-returns c = search (not_here, none_given, the_same, rules)
+returns c = search rules

@@ -13,15 +13,6 @@ pub returns-in-AcquireBypassable : goal.returns-in-AcquireBypassable
 unfolding grounds choice_of
 returns-in-AcquireBypassable c = search (of_act, rules)
 
-pub returns-in-AcquireReserving : goal.returns-in-AcquireReserving
-returns-in-AcquireReserving c = search (of_act, c.plan_reserving.ensures, rules)
-
-pub returns-in-Upgrade : goal.returns-in-Upgrade
-returns-in-Upgrade c = search (of_act, c.plan_upgrade.ensures, rules)
-
-pub returns-in-Poll : goal.returns-in-Poll
-returns-in-Poll c = search (of_act, c.plan_poll.ensures, rules)
-
 pub returns-in-Try : goal.returns-in-Try
 unfolding choice_of
 returns-in-Try c = search (of_act, c.plan_try.ensures, c.check_try.ensures, rules)
@@ -31,9 +22,6 @@ returns-in-TryUpgrade c = search (of_try_upgrade, c.plan_try-in-TryUpgrade.ensur
 
 pub returns-in-Release : goal.returns-in-Release
 returns-in-Release c = search (of_act, c.plan_release.ensures, rules)
-
-pub returns-in-Drop : goal.returns-in-Drop
-returns-in-Drop c = search (of_act, c.plan_drop.ensures, rules)
 
 pub returns-in-Close : goal.returns-in-Close
 unfolding grounds choice_of

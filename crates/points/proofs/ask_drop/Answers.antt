@@ -1,14 +1,19 @@
 -- 3, then the point.
+use Rattle.std.proofs.lemmas.Result.{err_from_is_err_and}
+use mathlib.Core.Path.{ap}
+use Rattle.rules.specs.Points.Told.{tells}
 use Rattle.splitting.specs.Asking.{point, point_grounds}
-use Rattle.planning.proofs.Grounds.{used-read}
-use Rattle.points.proofs.Asking.{told_here, told-on, told-point}
-use borrow.Author.Rules.{rules}
+use Rattle.points.proofs.Asking.{told_missing, told_found}
 use Rattle.points.proofs.ask_drop.Goals as goal
 
-pub returns-then-not-r : goal.returns-then-not-r
+pub returns-in_err-r : goal.returns-in_err-r
 unfolding point_grounds
-returns-then-not-r c = search (told_here, used-read, rules)
+returns-in_err-r c =
+    let p = err_from_is_err_and c.from_residual.result c.from_residual.ensures.1 in
+    λ ts. rw (p.1, p.2) (told_missing _ _ _ _ c.in_err-r.ensures.refused)
 
 pub returns : goal.returns
 unfolding point point_grounds
-returns c = search (told-on, told-point, used-read, c.waits.ensures, rules)
+returns c =
+    let e = c.in_ok-r.ensures in
+    λ ts. told_found _ _ _ _ _ e.read e.used (ap tells (c.waits.ensures c.args.slots.now ts e.read))

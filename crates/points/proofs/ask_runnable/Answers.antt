@@ -11,14 +11,6 @@ returns-in-BeforeTry c = search (of_question, rules)
 pub returns-in-BeforeTryUpgrade : goal.returns-in-BeforeTryUpgrade
 returns-in-BeforeTryUpgrade c = search (of_question, c.ask_try_upgrade.ensures, rules)
 
-pub returns-in-BeforeRelease : goal.returns-in-BeforeRelease
-unfolding point point_grounds
-returns-in-BeforeRelease c = search (of_question, rules)
-
-pub returns-in-BeforeClose : goal.returns-in-BeforeClose
-unfolding point point_grounds
-returns-in-BeforeClose c = search (of_question, rules)
-
 pub returns-in-BeforePoll : goal.returns-in-BeforePoll
 returns-in-BeforePoll c = search (of_question, c.ask_poll.ensures, rules)
 

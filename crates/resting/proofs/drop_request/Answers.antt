@@ -6,11 +6,5 @@ use Rattle.resting.proofs.drop_request.Goals as goal
 pub returns-in-Leaving : goal.returns-in-Leaving
 returns-in-Leaving c = search (drops_on, rules)
 
-pub returns-in-Unreserving : goal.returns-in-Unreserving
-returns-in-Unreserving c = search (drops_on, rules)
-
-pub returns-in-Returning : goal.returns-in-Returning
-returns-in-Returning c = search (drops_on, rules)
-
 pub returns-in-Nothing : goal.returns-in-Nothing
 returns-in-Nothing c = search (drops_nothing, rules)

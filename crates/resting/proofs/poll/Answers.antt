@@ -14,15 +14,3 @@ returns-in-Stays c = search (polls_staying, rules)
 
 pub returns-in-QueuesBack : goal.returns-in-QueuesBack
 returns-in-QueuesBack c = search (polls_on, rules)
-
-pub returns-in-QueuesFront : goal.returns-in-QueuesFront
-returns-in-QueuesFront c = search (polls_on, rules)
-
-pub returns-in-TakesReserved : goal.returns-in-TakesReserved
-returns-in-TakesReserved c = search (polls_on, rules)
-
-pub returns-in-Takes : goal.returns-in-Takes
-returns-in-Takes c = search (polls_on, rules)
-
-pub returns-in-Reserves : goal.returns-in-Reserves
-returns-in-Reserves c = search (polls_on, rules)

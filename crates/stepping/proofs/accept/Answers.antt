@@ -3,8 +3,8 @@ use mathlib.Core.Path.{◌∙◌}
 use Rattle.stepping.proofs.Accepted.{slot-there, may_rest, rest_taken, still-moves, still_due, still_taken}
 use Rattle.stepping.proofs.accept.Goals as goal
 
-pub effect_at_rest-rested-requires : goal.effect_at_rest-rested-requires
-effect_at_rest-rested-requires c =
+pub effect_at_rest-requires : goal.effect_at_rest-requires
+effect_at_rest-requires c =
     let due = c.requires in
     let h = due.fit.shaped.head in
     (h.slot-words, h.tasks, h.task-words, slot-there _ _ _ _ _ due)
@@ -12,27 +12,27 @@ effect_at_rest-rested-requires c =
 pub carry_out-requires : goal.carry_out-requires
 carry_out-requires c =
     let due = c.requires in
-    let by = c.effect_at_rest-rested.ensures in
-    (still_due _ _ _ _ _ due _ _ _ by c.in-Moves.is, still-moves _ _ _ _ _ due _ _ _ by c.in-Moves.is)
+    let by = c.effect_at_rest.ensures in
+    (still_due _ _ _ _ _ due _ _ _ by c.in-None.is, still-moves _ _ _ _ _ due _ _ _ by c.in-None.is)
 
 pub rest-requires : goal.rest-requires
 rest-requires c =
     let due = c.requires in
     let h = due.fit.shaped in
-    (h.latest, h.makers, h.clocks, may_rest _ _ _ _ _ due _ _ _ c.effect_at_rest-rested.ensures _ c.in-Rests.is)
+    (h.latest, h.makers, h.clocks, may_rest _ _ _ _ _ due _ _ _ c.effect_at_rest.ensures _ c.in-Some.is)
 
-pub shape_of-slots-in-Moves : goal.shape_of-slots-in-Moves
-shape_of-slots-in-Moves c =
-    c.carry_out.auto.slots ∙ c.effect_at_rest-rested.auto.slots
+pub shape_of-slots-in-None : goal.shape_of-slots-in-None
+shape_of-slots-in-None c =
+    c.carry_out.auto.slots ∙ c.effect_at_rest.auto.slots
 
-pub shape_of-tasks-in-Moves : goal.shape_of-tasks-in-Moves
-shape_of-tasks-in-Moves c =
-    c.carry_out.auto.tasks ∙ c.effect_at_rest-rested.auto.tasks
+pub shape_of-tasks-in-None : goal.shape_of-tasks-in-None
+shape_of-tasks-in-None c =
+    c.carry_out.auto.tasks ∙ c.effect_at_rest.auto.tasks
 
-pub returns-in-Moves : goal.returns-in-Moves
-returns-in-Moves c =
-    still_taken _ _ _ _ _ c.requires _ _ _ c.effect_at_rest-rested.ensures c.in-Moves.is _ _ _ c.carry_out.ensures
+pub returns-in-None : goal.returns-in-None
+returns-in-None c =
+    still_taken _ _ _ _ _ c.requires _ _ _ c.effect_at_rest.ensures c.in-None.is _ _ _ c.carry_out.ensures
 
-pub returns-in-Rests : goal.returns-in-Rests
-returns-in-Rests c =
-    rest_taken _ _ _ _ _ c.requires _ _ _ c.effect_at_rest-rested.ensures _ c.in-Rests.is _ _ _ c.rest.ensures c.rest.auto.makers c.rest.auto.clocks
+pub returns-in-Some : goal.returns-in-Some
+returns-in-Some c =
+    rest_taken _ _ _ _ _ c.requires _ _ _ c.effect_at_rest.ensures _ c.in-Some.is _ _ _ c.rest.ensures c.rest.auto.makers c.rest.auto.clocks

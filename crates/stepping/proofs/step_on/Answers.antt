@@ -1,6 +1,4 @@
 -- Planned, checked, and then refused or taken.
-use mathlib.Core.Path.{ap}
-use mathlib.Core.Bool.{not}
 use Rattle.stepping.proofs.Stepping.{checked_whole, refused_steps, no_refusal, taken_steps}
 use Rattle.stepping.proofs.step_on.Goals as goal
 
@@ -8,23 +6,26 @@ pub plan_act-plan-requires : goal.plan_act-plan-requires
 plan_act-plan-requires c =
     (c.requires.shaped.head.waiters, c.requires.shaped.head.slot-words)
 
-pub check-checked-requires : goal.check-checked-requires
-check-checked-requires c =
+pub check-requires : goal.check-requires
+check-requires c =
     let h = c.requires.shaped in
     (h.head.tasks, h.head.task-words, h.clocks)
 
-pub returns-then-not-is_accepted : goal.returns-then-not-is_accepted
-returns-then-not-is_accepted c =
-    refused_steps c.args.s _ c.args.grants.now c.requires c.args.a c.check-checked.result (checked_whole c.args.s _ c.args.grants.now c.requires c.args.a c.check-checked.result c.plan_act-plan.result c.check-checked.ensures (c.plan_act-plan.ensures c.args.tasks.now)) c.is_accepted.result c.is_accepted.ensures c.refuse.result (ap not c.if-not-is_accepted.true) c.refuse.ensures
-
 pub accept-requires : goal.accept-requires
 accept-requires c =
+    let a = c.args in
     record {
       fit = c.requires;
-      planned = c.plan_act-plan.ensures c.args.tasks.now;
-      unrefused = no_refusal c.args.s _ c.args.grants.now c.requires c.args.a c.check-checked.result (checked_whole c.args.s _ c.args.grants.now c.requires c.args.a c.check-checked.result c.plan_act-plan.result c.check-checked.ensures (c.plan_act-plan.ensures c.args.tasks.now)) c.is_accepted.result c.is_accepted.ensures (ap not c.if-not-is_accepted.false);
+      planned = c.plan_act-plan.ensures a.tasks.now;
+      unrefused = no_refusal a.s _ a.grants.now c.requires a.a _ (checked_whole a.s _ a.grants.now c.requires a.a c.check.result c.plan_act-plan.result c.check.ensures (c.plan_act-plan.ensures a.tasks.now)) c.in-Ok.is;
     }
 
-pub returns : goal.returns
-returns c =
-    taken_steps c.args.s _ c.args.grants.now c.requires c.args.a c.check-checked.result (checked_whole c.args.s _ c.args.grants.now c.requires c.args.a c.check-checked.result c.plan_act-plan.result c.check-checked.ensures (c.plan_act-plan.ensures c.args.tasks.now)) c.is_accepted.result c.is_accepted.ensures c.accept.result _ _ (ap not c.if-not-is_accepted.false) c.accept.ensures
+pub returns-in-Ok : goal.returns-in-Ok
+returns-in-Ok c =
+    let a = c.args in
+    taken_steps a.s _ a.grants.now c.requires a.a _ (checked_whole a.s _ a.grants.now c.requires a.a c.check.result c.plan_act-plan.result c.check.ensures (c.plan_act-plan.ensures a.tasks.now)) c.accept.result _ _ c.in-Ok.is c.accept.ensures
+
+pub returns-in-Err : goal.returns-in-Err
+returns-in-Err c =
+    let a = c.args in
+    rw c.refuse.ensures (refused_steps a.s _ a.grants.now c.requires a.a _ (checked_whole a.s _ a.grants.now c.requires a.a c.check.result c.plan_act-plan.result c.check.ensures (c.plan_act-plan.ensures a.tasks.now)) _ c.in-Err.is)

@@ -7,12 +7,12 @@ pub effect-requires : goal.effect-requires
 effect-requires c = (
   c.requires.0.shaped,
   search rules,
-  passes-slot c.args.h _ _ c.requires.0 c.args.me c.args.act _ c.requires.2 c.plan_act-plan.ensures c.in-Accepted.is,
-  passes_able c.args.h _ _ c.requires.0 c.args.me c.args.act _ c.requires.2 c.plan_act-plan.ensures c.in-Accepted.is,
+  passes-slot c.args.h _ _ c.requires.0 c.args.me c.args.act _ c.requires.2 c.plan_act-plan.ensures c.in-Ok.is,
+  passes_able c.args.h _ _ c.requires.0 c.args.me c.args.act _ c.requires.2 c.plan_act-plan.ensures c.in-Ok.is,
 )
 
-pub returns-in-Refused : goal.returns-in-Refused
-returns-in-Refused c = search (refused_act, rules)
+pub returns-in-Err : goal.returns-in-Err
+returns-in-Err c = search (refused_act, rules)
 
-pub returns-in-Accepted : goal.returns-in-Accepted
-returns-in-Accepted c = search (carried, rules)
+pub returns-in-Ok : goal.returns-in-Ok
+returns-in-Ok c = search (carried, rules)

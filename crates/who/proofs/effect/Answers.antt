@@ -5,17 +5,17 @@ use Rattle.who.proofs.effect.Goals as goal
 
 pub effect-requires : goal.effect-requires
 effect-requires c =
-    let by = c.effect_at_rest-rested.ensures in
-    let on = c.in-Moves.is in (
+    let by = c.effect_at_rest.ensures in
+    let on = c.in-None.is in (
       moves-shaped _ _ _ _ _ c.requires.0 _ _ _ by on,
       c.requires.1,
       moves _ _ _ _ _ c.requires.0 _ _ _ by on,
       moves_able _ _ _ _ _ c.requires.0 _ _ _ by on c.requires.3,
     )
 
-pub returns-in-Moves : goal.returns-in-Moves
-returns-in-Moves c =
-    moved_on _ _ _ _ _ c.requires.0 _ _ _ c.effect_at_rest-rested.ensures c.in-Moves.is _ _ _ _ c.effect.ensures
+pub returns-in-None : goal.returns-in-None
+returns-in-None c =
+    moved_on _ _ _ _ _ c.requires.0 _ _ _ c.effect_at_rest.ensures c.in-None.is _ _ _ _ c.effect.ensures
 
-pub returns-in-Rests : goal.returns-in-Rests
-returns-in-Rests c = search (rests, rules)
+pub returns-in-Some : goal.returns-in-Some
+returns-in-Some c = search (rests, rules)

@@ -6,5 +6,5 @@ use Rattle.who.proofs.step.Goals as goal
 pub carry_out-requires : goal.carry_out-requires
 carry_out-requires c = search (actor-passes, rules)
 
-pub returns-in-Refused : goal.returns-in-Refused
-returns-in-Refused c = search (refused-actor, rules)
+pub returns-in-Err : goal.returns-in-Err
+returns-in-Err c = search (refused-actor, rules)
