@@ -78,5 +78,3 @@ module _ (b : Batches) (sizes rows last makers clocks : List ℕ) (k : ℕ) (t :
               u.clock,
             );
       }
-
--- 9 and 11
