@@ -8,6 +8,11 @@ use std::env::FillError;
 use std::io::Read;
 use std::rt::Env;
 
+// An empty buffer. Its contract leaves open what stands there: a check that sees a long literal of zeros writes it out.
+pub fn room<const N: usize>() -> [u8; N] {
+    [0u8; N]
+}
+
 // Reads until the buffer is full, the input ends or a read fails; answers how many bytes it put at the buffer's start.
 pub fn read_full<R: Read>(reader: &mut R, buf: &mut [u8]) -> usize
     ensures { IsPrefixLen result buf.new }
@@ -33,10 +38,7 @@ pub fn arg(rt: &impl Env, i: usize, buf: &mut [u8]) -> usize
 // Whether there is an argument of that number, however long it is.
 fn is_arg(rt: &impl Env, i: usize) -> bool {
     let mut probe = [0u8; 1];
-    match rt.arg(i, &mut probe) {
-        Err(FillError::NotPresent) => false,
-        _ => true,
-    }
+    !matches!(rt.arg(i, &mut probe), Err(FillError::NotPresent))
 }
 
 // How many arguments there are, the program's own name counted; no more than `most` are counted.

@@ -9,19 +9,18 @@ use super::writing::put;
 // table's bundle it only matters that it is too long.
 const ENOUGH: u64 = 103079215084;
 
+// What is done with a bundle.
+#[derive(Clone, Copy)]
+pub enum Job {
+    Run,
+    List,
+}
+
 // Of standard input so many bytes are kept, and so many more were counted.
 #[derive(Clone, Copy)]
 struct Got {
     kept: usize,
     more: u64,
-}
-
-fn input() -> [u8; BUNDLE] {
-    [0u8; BUNDLE]
-}
-
-fn output() -> [u8; bundle_jobs::OUTPUT] {
-    [0u8; bundle_jobs::OUTPUT]
 }
 
 // Some bytes of standard input, passed over and counted.
@@ -34,11 +33,11 @@ fn pass_over(rt: &HostRuntime) -> u64
 
 // How many bytes are left on standard input, or more than enough: a bundle that is too long is judged by how long it is.
 fn count_rest(rt: &HostRuntime) -> u64 {
-    let mut more: u64 = 0;
+    let mut more = 0;
     while more < ENOUGH {
         let n = pass_over(rt);
         if n == 0 {
-            return more;
+            break;
         }
         more += n;
     }
@@ -48,30 +47,25 @@ fn count_rest(rt: &HostRuntime) -> u64 {
 fn read(rt: &HostRuntime, buf: &mut [u8]) -> Got
     ensures { IsPrefixLen result.kept buf.new }
 {
-    let n = filling::read_full(&mut rt.stdin(), buf);
-    if n < buf.len() {
-        return Got { kept: n, more: 0 };
-    }
-    let more = count_rest(rt);
-    Got { kept: n, more }
+    let kept = filling::read_full(&mut rt.stdin(), buf);
+    let more = if kept < buf.len() { 0 } else { count_rest(rt) };
+    Got { kept, more }
 }
 
-fn print(bundle: &[u8], more: u64, list: bool, out: &mut [u8]) -> usize
+fn print(bundle: &[u8], more: u64, job: Job, out: &mut [u8]) -> usize
     ensures { IsPrefixLen result out.new }
 {
-    if list {
-        return bundle_jobs::list(bundle, more, out);
+    match job {
+        Job::Run => bundle_jobs::run(bundle, more, out),
+        Job::List => bundle_jobs::list(bundle, more, out),
     }
-    bundle_jobs::run(bundle, more, out)
 }
 
-// The bundle on standard input, listed or run.
-pub fn show(rt: &HostRuntime, list: bool) {
-    let mut bundle = input();
+// The bundle on standard input, run or listed.
+pub fn show(rt: &HostRuntime, job: Job) {
+    let mut bundle = filling::room::<BUNDLE>();
     let got = read(rt, &mut bundle);
-    let n = got.kept;
-    let more = got.more;
-    let mut out = output();
-    let k = print(&bundle[..n], more, list, &mut out);
+    let mut out = filling::room::<{ bundle_jobs::OUTPUT }>();
+    let k = print(&bundle[..got.kept], got.more, job, &mut out);
     put(rt, &out[..k]);
 }

@@ -6,23 +6,16 @@ mod bundles;
 mod packing;
 mod writing;
 
+use bundles::Job;
 use writing::put;
 
 // One byte more than a bundle may have: a buffer that is full tells that there is too much.
 const BUNDLE: usize = bundle::LONGEST + 1;
 
-fn input() -> [u8; trace::INPUT] {
-    [0u8; trace::INPUT]
-}
-
-fn output() -> [u8; trace::OUTPUT] {
-    [0u8; trace::OUTPUT]
-}
-
 fn run(rt: &HostRuntime) {
-    let mut script = input();
+    let mut script = filling::room::<{ trace::INPUT }>();
     let n = filling::read_full(&mut rt.stdin(), &mut script);
-    let mut out = output();
+    let mut out = filling::room::<{ trace::OUTPUT }>();
     let k = trace::run(&script[..n], &mut out);
     put(rt, &out[..k]);
 }
@@ -30,11 +23,11 @@ fn run(rt: &HostRuntime) {
 // By the option.
 fn act(rt: &HostRuntime, word: &[u8]) {
     if check::same(word, b"--bundle") {
-        bundles::show(rt, false);
+        bundles::show(rt, Job::Run);
         return;
     }
     if check::same(word, b"--list") {
-        bundles::show(rt, true);
+        bundles::show(rt, Job::List);
         return;
     }
     if check::same(word, b"--pack") {

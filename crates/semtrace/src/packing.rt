@@ -1,5 +1,5 @@
 // The bundle of some files.
-ghost use Rattle.std.specs.Prelude.{◌≡◌, ◌+◌, ◌≤◌, ◌<◌, length};
+ghost use Rattle.std.specs.Prelude.{◌≤◌, ◌<◌, length, IfOk, IfSome};
 ghost use Rattle.filling.specs.Counts.{IsPrefixLen};
 
 use super::BUNDLE;
@@ -10,57 +10,11 @@ use std::fs::File;
 use std::io::{self, Error, ErrorKind, Read};
 use std::str;
 
-// How far the bodies reach in their buffer, and whether every file could be read.
-#[derive(Clone, Copy)]
-struct Gathered {
-    at: usize,
-    whole: bool,
-}
-
-fn bodies_room() -> [u8; BUNDLE]
-    ensures { length result ≡ 65537 }
-{
-    [0u8; BUNDLE]
-}
-
-fn names_room() -> [u8; 4096]
-    ensures { length result ≡ 4096 }
-{
-    [0u8; 4096]
-}
-
-fn lengths_room() -> [u32; 256]
-    ensures { length result ≡ 256 }
-{
-    [0u32; 256]
-}
-
-fn output() -> [u8; bundle::LONGEST] {
-    [0u8; bundle::LONGEST]
-}
-
 // How many files the arguments name, or 257, which are too many.
 fn files(rt: &HostRuntime) -> usize
     ensures { result ≤ 257 }
 {
-    let n = filling::arg_count(rt, 259);
-    if n < 2 {
-        return 0;
-    }
-    if 258 < n {
-        return 257;
-    }
-    n - 2
-}
-
-// Whether a file that gave no more bytes ended there; a read that failed is told, which `read_full` takes for the end.
-fn ended(rt: &HostRuntime, file: &mut File, path: &[u8]) -> bool {
-    let mut probe = [0u8; 1];
-    if let Err(e) = file.read(&mut probe) {
-        fail(rt, path, e);
-        return false;
-    }
-    true
+    filling::arg_count(rt, 259).saturating_sub(2)
 }
 
 // The file at a path; std opens paths of UTF-8 alone.
@@ -71,71 +25,66 @@ fn open(rt: &HostRuntime, path: &[u8]) -> io::Result<File> {
     }
 }
 
-// The file at a path, into the buffer from a place on.
-fn read_file(rt: &HostRuntime, path: &[u8], bodies: &mut [u8], at: usize) -> Gathered
+// The file at a path, into the buffer from a place on; the place after it. A file that gave no more bytes is asked once more: a read that
+// failed `read_full` takes for the end.
+fn read_file(rt: &HostRuntime, path: &[u8], bodies: &mut [u8], at: usize) -> Result<usize>
     requires { at ≤ length bodies.old }
-    ensures { (at ≤ result.at) × (result.at ≤ length bodies.old) }
+    ensures { IfOk result (λ end. (at ≤ end) × (end ≤ length bodies.old)) }
 {
-    match open(rt, path) {
-        Err(e) => {
-            fail(rt, path, e);
-            Gathered { at, whole: false }
-        }
-        Ok(mut file) => {
-            let n = filling::read_full(&mut file, &mut bodies[at..]);
-            let full = at + n == bodies.len();
-            let whole = full || ended(rt, &mut file, path);
-            Gathered { at: at + n, whole }
-        }
+    let mut file = open(rt, path)?;
+    let end = at + filling::read_full(&mut file, &mut bodies[at..]);
+    if end < bodies.len() {
+        file.read(&mut [0u8; 1])?;
     }
+    Ok(end)
 }
 
-// The file that argument 2 + i names: its name, its bytes and how many they are.
+// The file that argument 2 + i names: its name, its bytes and how many they are; the place after its bytes. A file that could not be read
+// is told of.
 fn gather_one(
     rt: &HostRuntime,
     i: usize,
     at: usize,
-    bodies: &mut [u8],
-    names: &mut [u8],
-    lengths: &mut [u32],
-) -> Gathered
-    requires { (i < 256) × (at ≤ length bodies.old) × (length bodies.old ≡ 65537) × (length names.old ≡ 4096) × (length lengths.old ≡ 256) }
-    ensures { result.at ≤ length bodies.old }
+    bodies: &mut [u8; BUNDLE],
+    names: &mut [u8; 4096],
+    lengths: &mut [u32; 256],
+) -> Option<usize>
+    requires { (i < 256) × (at ≤ length bodies.old) }
+    ensures { IfSome result (λ end. end ≤ length bodies.new) }
 {
     let mut path = [0u8; 4096];
     let k = filling::arg(rt, i + 2, &mut path);
     let name = bundle_jobs::named(&path[..k]);
     text::put(names, bundle::NAME * i, &name);
-    let got = read_file(rt, &path[..k], bodies, at);
-    lengths[i] = (got.at - at) as u32;
-    got
+    match read_file(rt, &path[..k], bodies, at) {
+        Ok(end) => {
+            lengths[i] = (end - at) as u32;
+            Some(end)
+        }
+        Err(e) => {
+            fail(rt, &path[..k], e);
+            None
+        }
+    }
 }
 
-// The n files; of too many none is read.
+// The n files, and how far their bytes reach; of too many none is read.
 fn gather(
     rt: &HostRuntime,
     n: usize,
-    bodies: &mut [u8],
-    names: &mut [u8],
-    lengths: &mut [u32],
-) -> Gathered
-    requires { (length bodies.old ≡ 65537) × (length names.old ≡ 4096) × (length lengths.old ≡ 256) }
-    ensures { IsPrefixLen result.at bodies.new }
+    bodies: &mut [u8; BUNDLE],
+    names: &mut [u8; 4096],
+    lengths: &mut [u32; 256],
+) -> Option<usize>
+    ensures { IfSome result (λ end. IsPrefixLen end bodies.new) }
 {
-    if 256 < n {
-        return Gathered { at: 0, whole: true };
-    }
-    let mut at: usize = 0;
-    let mut i: usize = 0;
-    while i < n {
-        let got = gather_one(rt, i, at, bodies, names, lengths);
-        if !got.whole {
-            return got;
+    let mut at = 0;
+    if n <= 256 {
+        for i in 0..n {
+            at = gather_one(rt, i, at, bodies, names, lengths)?;
         }
-        at = got.at;
-        i += 1;
     }
-    Gathered { at, whole: true }
+    Some(at)
 }
 
 fn say(rt: &HostRuntime, r: Result<usize, Refusal>, out: &[u8]) {
@@ -154,20 +103,18 @@ fn say(rt: &HostRuntime, r: Result<usize, Refusal>, out: &[u8]) {
 // The bundle of the files that the arguments name, or nothing, and why on standard error.
 pub fn pack(rt: &HostRuntime) {
     let n = files(rt);
-    let mut bodies = bodies_room();
-    let mut names = names_room();
-    let mut lengths = lengths_room();
-    let got = gather(rt, n, &mut bodies, &mut names, &mut lengths);
-    if !got.whole {
+    let mut bodies = filling::room();
+    let mut names = filling::room();
+    let mut lengths = [0u32; 256];
+    let Some(end) = gather(rt, n, &mut bodies, &mut names, &mut lengths) else {
         return;
-    }
-    let at = got.at;
+    };
     let contents = Contents {
         count: n as u32,
         names,
         lengths,
     };
-    let mut out = output();
-    let r = bundle::write(contents, &bodies[..at], &mut out);
+    let mut out = filling::room::<{ bundle::LONGEST }>();
+    let r = bundle::write(contents, &bodies[..end], &mut out);
     say(rt, r, &out);
 }
