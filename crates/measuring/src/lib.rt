@@ -8,7 +8,7 @@ ghost use Rattle.state.specs.View.{words, Fit};
 
 use replies::Reply;
 use rules::{Act, Fairness, Slot, Step, TaskId};
-use script::{First, Maker};
+use script::First;
 use state::BatchSemaphore;
 use std::io;
 use std::io::Input;
@@ -68,10 +68,10 @@ fn fairness(kind: u8) -> Fairness {
     }
 }
 
-fn maker(kind: u8) -> Maker {
+fn maker(kind: u8) -> Option<TaskId> {
     match kind {
-        255 => Maker::Nobody,
-        _ => Maker::Task(TaskId(kind)),
+        255 => None,
+        _ => Some(TaskId(kind)),
     }
 }
 

@@ -40,14 +40,14 @@ pub fn counts_of(h: Head) -> Counts
     }
 }
 
-// Every printer below asks for room for its text, and for no more.
+// Every printer below writes into a lent buffer, and asks for room for its text and for no more: a Display would not say how much it writes.
 
 // A byte's number.
 fn print_small(buf: &mut [u8], at: usize, n: u8) -> usize
     requires { at + length (digits n) ≤ length buf.old }
     ensures { Appended buf.old at (digits n) buf.new result }
 {
-    text::print_number(buf, at, n as u32)
+    text::print_number(buf, at, u32::from(n))
 }
 
 // A number and a space.
@@ -63,7 +63,7 @@ fn print_field(buf: &mut [u8], at: usize, n: u32) -> usize
 pub fn bit(b: bool) -> u32
     ensures { digits result ≡ closed_text b }
 {
-    if b { 1 } else { 0 }
+    u32::from(b)
 }
 
 fn print_counts(buf: &mut [u8], at: usize, c: Counts) -> usize
@@ -122,11 +122,8 @@ fn print_rest(buf: &mut [u8], at: usize, grants: &[u32], n: usize) -> usize
     ensures { Appended buf.old at (rest_text (grants_of n grants.now)) buf.new result }
 {
     let mut p = at;
-    let mut i: usize = 1;
-    while i < n {
-        let taker = grants[3 * i];
-        p = print_next(buf, p, taker);
-        i += 1;
+    for i in 1..n {
+        p = print_next(buf, p, grants[3 * i]);
     }
     p
 }
@@ -136,8 +133,7 @@ fn print_takers(buf: &mut [u8], at: usize, grants: &[u32], n: usize) -> usize
     requires { (0 < n) × (n ≤ slot_count) × (length grants.now ≡ slot_count * 3) × (at + length (takers_text (grants_of n grants.now)) ≤ length buf.old) }
     ensures { Appended buf.old at (takers_text (grants_of n grants.now)) buf.new result }
 {
-    let taker = grants[0];
-    let p = print_taker(buf, at, taker);
+    let p = print_taker(buf, at, grants[0]);
     print_rest(buf, p, grants, n)
 }
 
@@ -198,5 +194,5 @@ pub fn line_room(a: Reply, c: Counts, n: u8) -> usize
     let y = number_room(c.available);
     let z = number_room(c.stock);
     let q = number_room(c.queued);
-    x + y + z + q + 4 * n as usize + 8
+    x + y + z + q + 4 * usize::from(n) + 8
 }

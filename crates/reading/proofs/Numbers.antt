@@ -6,18 +6,14 @@ use native.Mathlib.Omega.{arith}
 use mathlib.Core.Path.{◌≡◌, refl, ap, sym, subst, ◌∙◌}
 use mathlib.Core.List.{List, [], ◌∷◌, ◌++◌}
 use lib.ListN.{length, take, drop, set, length-set, length-append, length-drop}
-use lib.Seq.{append_snoc, set_out, take-suc-set}
+use lib.Seq.{append_snoc, take-suc-set}
 use Rattle.rules.specs.Text.{space, fields}
 use Rattle.rules.specs.Script.{◌>>=◌, numbers_of}
 use Rattle.rules.proofs.Parts.{parts_front, parts-few}
 use Rattle.text.specs.declared.Reading.{Reading}
-use Rattle.text.specs.declared.Reading.TheVariants.{Last, Then, Other}
+use Rattle.text.specs.declared.Reading.TheVariants.{Last, Then}
 use Rattle.text.specs.Reading.{Behind, ReadAt}
 use Rattle.reading.specs.Starts.{Reads}
-
--- an entry that does not fit is not kept
-pub not-kept : (xs : List ℕ) (i x : ℕ) → length xs ≤ i → xs ≡ set xs i x
-not-kept xs i x h = sym (set_out xs i x h)
 
 -- The numbers of a line from one place on, read up to another.
 pub record Along (line : List ℕ) (from : ℕ) (starts : List ℕ) (at n : ℕ) : Type 0 where
@@ -45,26 +41,26 @@ along_none line from starts h l =
     whole None = refl
     whole (Some ns) = refl
 
-module _ (line : List ℕ) (at : ℕ) (r : Reading) (read : ReadAt line at r) where
+none_read : (line : List ℕ) (at : ℕ) → ReadAt line at None → numbers_of (fields (drop at line)) ≡ None
+unfolding numbers_of
+none_read line at p = rw (parts_front space (drop at line), p.says)
+
+pub along_bad : (line : List ℕ) (at from : ℕ) (starts : List ℕ) (n : ℕ) → ReadAt line at None → Along line from starts at n → numbers_of (fields (drop from line)) ≡ None
+along_bad line at from starts n p a = a.left ∙ rw (none_read line at p)
+
+module _ (line : List ℕ) (at : ℕ) (r : Reading) (read : ReadAt line at (Some r)) where
   last-read : (x : ℕ) → r ≡ Last x → numbers_of (fields (drop at line)) ≡ Some (x ∷ [])
   unfolding numbers_of
-  last-read x e = let p = subst (ReadAt line at) e read in rw (p.behind, p.says)
+  last-read x e = let p = rw e at read in rw (p.behind, p.says)
 
   then_read : (x next : ℕ) → r ≡ Then x next → numbers_of (fields (drop at line)) ≡ (numbers_of (fields (drop next line)) >>= λ ns. Some (x ∷ ns))
   unfolding numbers_of
-  then_read x next e = let p = subst (ReadAt line at) e read in rw (p.behind.0, p.says)
-
-  none_read : r ≡ Other → numbers_of (fields (drop at line)) ≡ None
-  unfolding numbers_of
-  none_read e = let p = subst (ReadAt line at) e read in rw (parts_front space (drop at line), p.says)
+  then_read x next e = let p = rw e at read in rw (p.behind.0, p.says)
 
   pub less_left : (x next : ℕ) → r ≡ Then x next → length (fields (drop next line)) < length (fields (drop at line))
-  less_left x next e = let p = subst (ReadAt line at) e read in rw p.behind.0 (omega arith)
+  less_left x next e = let p = rw e at read in rw p.behind.0 (omega arith)
 
   module _ (from : ℕ) (starts : List ℕ) (n : ℕ) (a : Along line from starts at n) where
-    pub along_bad : r ≡ Other → numbers_of (fields (drop from line)) ≡ None
-    along_bad e = a.left ∙ rw (none_read e)
-
     -- a number more is counted
     pub count_fits : length line * 1 < 2 ^ 63 → n + 1 < 2 ^ 64
     count_fits h = omega (arith, a.counted)
@@ -90,7 +86,7 @@ module _ (line : List ℕ) (at : ℕ) (r : Reading) (read : ReadAt line at r) wh
             left = a.left ∙ rw (then_read x next e) (regroup (numbers_of (fields (drop next line))));
             count = count_more;
             kept = kept_more;
-            within = (subst (Behind line at) e read.behind).1;
+            within = (subst (λ (q : Reading). Behind line at (Some q)) e read.behind).1;
             counted = omega (arith, o, a.counted, less_left x next e);
             sized = sized-still;
           }

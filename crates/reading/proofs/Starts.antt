@@ -1,7 +1,7 @@
 -- The start that a first line says, with the clocks that were read.
 use Rattle.std.specs.Prelude.{Option, None, Some}
 use Rattle.std.proofs.lemmas.Option.{same_Some}
-use Prim.Native.Nat.{ℕ, ◌+◌, ◌*◌, ◌-◌, ◌^◌, ◌≤◌, ◌<◌}
+use Prim.Native.Nat.{ℕ, ◌+◌, ◌*◌, ◌-◌, ◌≤◌, ◌<◌}
 use native.Mathlib.Nat.{mul-le-mul}
 use native.Mathlib.Decide.{dec_lt}
 use native.Mathlib.Omega.{arith}
@@ -25,16 +25,14 @@ use Rattle.text.specs.declared.NextLine.{NextLine}
 use Rattle.text.specs.declared.NextLine.TheVariants.{Ended, Unended, End}
 use Rattle.script.specs.declared.First.{First}
 use Rattle.script.specs.declared.Opening.{Opening}
-use Rattle.script.specs.declared.Opening.TheVariants.{Spawned, Given, Bad as NoStart}
-use Rattle.script.specs.Opening.{start_said, opened, start_named, start_within, Opens, PlaceWithin}
+use Rattle.script.specs.declared.Opening.TheVariants.{Spawned, Given}
+use Rattle.script.specs.Opening.{start_said, opened, start_named, start_within, Opens}
 use Rattle.script.proofs.Within.{start-within}
 use Rattle.spawning.specs.Rows.{spawned_in}
 use Rattle.spawning.proofs.Spawns.{spawned_taken, spawned-sized}
 use Rattle.reading.specs.declared.FirstLine.{FirstLine}
 use Rattle.reading.specs.declared.FirstLine.TheVariants.{Is, Bad, Nothing}
-use Rattle.reading.specs.declared.Clocks.{Clocks}
-use Rattle.reading.specs.declared.Clocks.TheVariants.{Are, Bad as Unread}
-use Rattle.reading.specs.Starts.{entries_of, start_read, ReadsStart, SaysStart, SaysFirst, Reads, ClocksTo}
+use Rattle.reading.specs.Starts.{entries_of, start_read, ReadsStart, SaysStart, SaysFirst, Reads}
 
 -- How many entries.
 
@@ -47,17 +45,8 @@ too_many_lem k h = rw (lt-ltb 16 k h)
 pub not_too_many : (k : ℕ) → k ≤ 16 → k * k ≡ entries_of k
 not_too_many k h = rw (le-ltb 16 k h)
 
-pub entries_small : (k : ℕ) → k ≤ 16 → k * k < 2 ^ 64
-entries_small k h = omega (arith, square k h)
-
 pub entries-few : (k : ℕ) → entries_of k ≤ 256
 entries-few k = elim (dec_lt 16 k) [ yes h ↦ rw (lt-ltb 16 k h) (omega arith) | no h ↦ rw (le-ltb 16 k (omega arith)) (square k (omega arith)) ]
-
--- the product of any number of tasks with itself
-pub product_fits : (k : ℕ) → k < 2 ^ 32 → k * k < 2 ^ 64
-product_fits k h =
-    let l : k ≤ 4294967295 = omega arith in
-    omega (arith, mul-le-mul l l)
 
 -- A start with clocks of which the words hold those of up to 16 tasks: 12 refuses more tasks whatever their clocks.
 same_begun : (a : First) (cs starts : List ℕ) → (a.tasks ≤ 16 → take (a.tasks * a.tasks) starts ≡ cs) → start (start_read a starts) ≡ start (start_said a cs)
@@ -82,19 +71,16 @@ all_given k [] t h e = absurd (omega arith)
 all_given k (c ∷ cs) true h e = rw e
 all_given k (c ∷ cs) false h e = rw e
 
-module _ (a : First) (line : List ℕ) (at next : ℕ) (r : Clocks) (starts : List ℕ) (is : ClocksTo line at r starts) where
-  module _ (n : ℕ) (q : r ≡ Are n) where
-    read : Reads (numbers_of (fields (drop at line))) n starts
-    read = subst (λ (x : Clocks). ClocksTo line at x starts) q is
-
-    told : (t : Bool) → t ≡ eqb n (a.tasks * a.tasks) → opened line (Given a at) ≡ elim t [ true ↦ Some (start_said a read.numbers) | false ↦ None ]
+module _ (a : First) (line : List ℕ) (at next : ℕ) (starts : List ℕ) where
+  module _ (n : ℕ) (read : Reads (numbers_of (fields (drop at line))) n starts) where
+    told : (t : Bool) → t ≡ eqb n (a.tasks * a.tasks) → opened line (Some (Given a at)) ≡ elim t [ true ↦ Some (start_said a read.numbers) | false ↦ None ]
     told t e = rw (read.says, all_given a.tasks read.numbers t (omega (arith, read.some_there, read.count)) (ap (λ (m : ℕ). eqb m (a.tasks * a.tasks)) (sym read.count) ∙ sym e)) (by_test t)
       where
         by_test : (t : Bool) → (elim t [ true ↦ Some read.numbers | false ↦ None ] >>= λ cs. Some (start_said a cs)) ≡ elim t [ true ↦ Some (start_said a read.numbers) | false ↦ None ]
         by_test true = refl
         by_test false = refl
 
-    pub given_all : (t : Bool) → t ≡ eqb n (a.tasks * a.tasks) → t ≡ true → SaysStart (opened line (Given a at)) next (Is a next) starts
+    pub given_all : (t : Bool) → t ≡ eqb n (a.tasks * a.tasks) → t ≡ true → SaysStart (opened line (Some (Given a at))) next (Is a next) starts
     given_all t e b =
         let m : n ≡ a.tasks * a.tasks = eqb-true n (a.tasks * a.tasks) (sym e ∙ b) in (
           refl,
@@ -105,12 +91,6 @@ module _ (a : First) (line : List ℕ) (at next : ℕ) (r : Clocks) (starts : Li
             sized = read.sized;
           },
         )
-
-    pub given_others : (t : Bool) → t ≡ eqb n (a.tasks * a.tasks) → t ≡ false → SaysStart (opened line (Given a at)) next Bad starts
-    given_others t e b = told false (sym b ∙ e)
-
-  pub given_unread : r ≡ Unread → SaysStart (opened line (Given a at)) next Bad starts
-  given_unread q = rw (subst (λ (x : Clocks). ClocksTo line at x starts) q is)
 
 -- What is read names the maker within a byte, which makes no difference.
 named : (o : Option Start) (next : ℕ) (res : FirstLine) (starts : List ℕ) → SaysStart (start_within o) next res starts → SaysStart o next res starts
@@ -124,22 +104,16 @@ named (Some a) next Bad starts s = absurd (said-not (Some (start_named a)) (star
 named o next Nothing starts s = s
 
 -- What a line says, by what was opened.
-module _ (line : List ℕ) (r : Opening) (is : Opens line (start_within (start_of line)) r) (next : ℕ) (starts : List ℕ) where
-  as_opened : (x : Opening) (res : FirstLine) → r ≡ x → SaysStart (opened line x) next res starts → SaysStart (start_of line) next res starts
-  as_opened x res e s =
-      named (start_of line) next res starts (subst (λ (o : Option Start). SaysStart o next res starts) (ap (opened line) (sym e) ∙ is.says) s)
+module _ (line : List ℕ) (next : ℕ) (starts : List ℕ) where
+  as_opened : (x : Option Opening) (res : FirstLine) → Opens line (start_within (start_of line)) x → SaysStart (opened line x) next res starts → SaysStart (start_of line) next res starts
+  as_opened x res is s = named (start_of line) next res starts (subst (λ (o : Option Start). SaysStart o next res starts) is.says s)
 
-  pub given-within : (a : First) (at : ℕ) → r ≡ Given a at → at ≤ length line
-  given-within a at e = subst (PlaceWithin line) e is.within
+  pub start-spawned : (a : First) → Opens line (start_within (start_of line)) (Some (Spawned a)) → starts ≡ spawned_in a.tasks → SaysStart (start_of line) next (Is a next) starts
+  start-spawned a is w = as_opened (Some (Spawned a)) (Is a next) is (refl, reads_spawned a starts w)
 
-  pub start-spawned : (a : First) → r ≡ Spawned a → starts ≡ spawned_in a.tasks → SaysStart (start_of line) next (Is a next) starts
-  start-spawned a e w = as_opened (Spawned a) (Is a next) e (refl, reads_spawned a starts w)
-
-  pub start-given : (a : First) (at : ℕ) (res : FirstLine) → r ≡ Given a at → SaysStart (opened line (Given a at)) next res starts → SaysStart (start_of line) next res starts
-  start-given a at res e s = as_opened (Given a at) res e s
-
-  pub start_none : r ≡ NoStart → SaysStart (start_of line) next Bad starts
-  start_none e = as_opened NoStart Bad e refl
+  pub start-given : (a : First) (at : ℕ) (res : FirstLine) → Opens line (start_within (start_of line)) (Some (Given a at)) → SaysStart (opened line (Some (Given a at))) next res starts
+      → SaysStart (start_of line) next res starts
+  start-given a at res is s = as_opened (Some (Given a at)) res is s
 
 -- The first line of a script.
 module _ (script : List ℕ) (l : NextLine) (is : NextIs script 0 l) (starts : List ℕ) where

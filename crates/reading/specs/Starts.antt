@@ -9,8 +9,6 @@ use Rattle.script.specs.declared.First.{First}
 use Rattle.script.specs.Opening.{start_said}
 use Rattle.reading.specs.declared.FirstLine.{FirstLine}
 use Rattle.reading.specs.declared.FirstLine.TheVariants.{Is, Bad, Nothing}
-use Rattle.reading.specs.declared.Clocks.{Clocks}
-use Rattle.reading.specs.declared.Clocks.TheVariants.{Are, Bad as Unread}
 use Rattle.reading.specs.Steps.{line_bytes}
 
 -- how many entries the clocks of n tasks have; none where 12 refuses so many tasks whatever their clocks
@@ -62,6 +60,6 @@ pub record Reads (o : Option (List ℕ)) (n : ℕ) (starts : List ℕ) : Type 0 
   pub kept : n ≤ 256 → take n starts ≡ numbers
   pub sized : length starts ≡ 256
 
-abbrev pub ClocksTo : List ℕ → ℕ → Clocks → List ℕ → Type 0
-ClocksTo line from (Are n) starts = Reads (numbers_of (fields (drop from line))) n starts
-ClocksTo line from Unread starts = numbers_of (fields (drop from line)) ≡ None
+abbrev pub ClocksTo : List ℕ → ℕ → Option ℕ → List ℕ → Type 0
+ClocksTo line from (Some n) starts = Reads (numbers_of (fields (drop from line))) n starts
+ClocksTo line from None starts = numbers_of (fields (drop from line)) ≡ None

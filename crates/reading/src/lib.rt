@@ -1,37 +1,31 @@
 // What the lines of a script say, one by one: the first line a start, each other line a step. Whoever goes through a script reads it here.
 #![tactic(auto)]
 
-ghost use Rattle.std.specs.Prelude.{◌≡◌, ◌+◌, ◌*◌, ◌^◌, ◌≤◌, ◌<◌, eqb, length, set};
+ghost use Rattle.std.specs.Prelude.{◌≡◌, ◌+◌, ◌*◌, ◌^◌, ◌≤◌, ◌<◌, eqb, length, set, None, Some};
 ghost use Rattle.rules.specs.Script.{start_of};
-ghost use Rattle.script.specs.declared.Parsed.TheVariants.{Bad};
 ghost use Rattle.script.specs.declared.Opening.TheVariants.{Given};
 ghost use Rattle.script.specs.Opening.{opened};
 ghost use Rattle.reading.specs.Starts.{entries_of, ClocksTo, SaysStart, SaysFirst};
 ghost use Rattle.reading.specs.Steps.{SaysTo, SaysAt};
 
-use script::{First, Opening, Parsed};
+use rules::Step;
+use script::{First, Opening};
 use text::{NextLine, Reading};
 
-// What a line says, and where the next line starts.
+// The step that a line says, or none; and where the next line starts.
 #[derive(Clone, Copy)]
 pub struct ReadLine {
-    pub said: Parsed,
+    pub said: Option<Step>,
     pub next: usize,
 }
 
-// What the first line says: a start, and where the next line starts; or nothing; or that there is none.
+// What the first line says: a start, and where the next line starts; or nothing; or that there is none. No Option or Result: neither of the
+// last two is the failure of the other.
 #[derive(Clone, Copy)]
 pub enum FirstLine {
     Is { first: First, next: usize },
     Bad,
     Nothing,
-}
-
-// What was read of starting clocks: how many entries, or that one of them is no number.
-#[derive(Clone, Copy)]
-pub enum Clocks {
-    Are(usize),
-    Bad,
 }
 
 // ---- steps
@@ -46,10 +40,10 @@ fn read_to(script: &[u8], at: usize, e: usize) -> ReadLine
 
 // A line that is not ended says nothing, and is the last.
 fn read_unended(script: &[u8]) -> ReadLine
-    ensures { result ≡ record { said = Bad; next = length script.now } }
+    ensures { result ≡ record { said = None; next = length script.now } }
 {
     ReadLine {
-        said: Parsed::Bad,
+        said: None,
         next: script.len(),
     }
 }
@@ -61,8 +55,7 @@ pub fn read_line(script: &[u8], at: usize) -> ReadLine
 {
     match lines::line_at(script, at) {
         NextLine::Ended(e) => read_to(script, at, e),
-        NextLine::Unended => read_unended(script),
-        NextLine::End => read_unended(script),
+        NextLine::Unended | NextLine::End => read_unended(script),
     }
 }
 
@@ -71,11 +64,8 @@ pub fn read_line(script: &[u8], at: usize) -> ReadLine
 pub fn entries_of(tasks: u32) -> usize
     ensures { result ≡ entries_of tasks }
 {
-    if 16 < tasks {
-        return 0;
-    }
     let n = tasks as usize;
-    n * n
+    if n <= 16 { n * n } else { 0 }
 }
 
 // Whether so many entries are all of them: 64 bits hold the product for any number of tasks.
@@ -87,32 +77,30 @@ fn are_all(n: usize, tasks: u32) -> bool
 }
 
 // The entry behind n others is kept where there is room for it, and counted.
-fn keep(starts: &mut [u32], n: usize, x: u32) -> usize
+fn keep(starts: &mut [u32; 256], n: usize, x: u32) -> usize
     requires { n + 1 < 2 ^ 64 }
     ensures { (starts.new ≡ set starts.old n x) × (result ≡ n + 1) }
 {
-    if starts.len() <= n {
-        return n + 1;
+    if n < starts.len() {
+        starts[n] = x;
     }
-    starts[n] = x;
     n + 1
 }
 
-// The numbers of a line from a place on, every one of them counted.
-fn read_clocks(line: &[u8], from: usize, starts: &mut [u32]) -> Clocks
-    requires { (from ≤ length line.now) × (length starts.old ≡ 256) }
+// The numbers of a line from a place on, every one of them counted; none where a field says no number.
+fn read_clocks(line: &[u8], from: usize, starts: &mut [u32; 256]) -> Option<usize>
+    requires { from ≤ length line.now }
     ensures { ClocksTo line.now from result starts.new }
 {
     let mut at = from;
     let mut n: usize = 0;
     loop {
-        match text::number_at(line, at) {
-            Reading::Last(x) => return Clocks::Are(keep(starts, n, x)),
+        match text::number_at(line, at)? {
+            Reading::Last(x) => return Some(keep(starts, n, x)),
             Reading::Then(x, next) => {
                 n = keep(starts, n, x);
                 at = next;
             }
-            Reading::Other => return Clocks::Bad,
         }
     }
 }
@@ -126,16 +114,11 @@ fn with_clocks(
     starts: &mut [u32; 256],
 ) -> FirstLine
     requires { at ≤ length line.now }
-    ensures { SaysStart (opened line.now (Given first at)) next result starts.new }
+    ensures { SaysStart (opened line.now (Some (Given first at))) next result starts.new }
 {
     match read_clocks(line, at, starts) {
-        Clocks::Are(n) => {
-            if are_all(n, first.tasks) {
-                return FirstLine::Is { first, next };
-            }
-            FirstLine::Bad
-        }
-        Clocks::Bad => FirstLine::Bad,
+        Some(n) if are_all(n, first.tasks) => FirstLine::Is { first, next },
+        _ => FirstLine::Bad,
     }
 }
 
@@ -144,12 +127,12 @@ fn read_start(line: &[u8], next: usize, starts: &mut [u32; 256]) -> FirstLine
     ensures { SaysStart (start_of line.now) next result starts.new }
 {
     match script::start_of(line) {
-        Opening::Spawned(first) => {
+        Some(Opening::Spawned(first)) => {
             spawning::spawn(first.tasks, starts);
             FirstLine::Is { first, next }
         }
-        Opening::Given(first, at) => with_clocks(first, line, at, next, starts),
-        Opening::Bad => FirstLine::Bad,
+        Some(Opening::Given(first, at)) => with_clocks(first, line, at, next, starts),
+        None => FirstLine::Bad,
     }
 }
 

@@ -4,7 +4,6 @@ use arrays::{Arrays, Came};
 use printing::bit;
 use replies::Reply;
 use rules::{Act, Question, Step};
-use script::Parsed;
 use showing::{put, put_step};
 use state::{BatchSemaphore, Stepped};
 use std::io::Result;
@@ -75,8 +74,8 @@ fn run_step(buf: &mut [u8], at: usize, s: BatchSemaphore, w: Arrays, a: Step) ->
 }
 
 // A line is run.
-fn run_line(buf: &mut [u8], at: usize, came: Came, said: Parsed) -> Turn {
-    let Parsed::Is(a) = said else {
+fn run_line(buf: &mut [u8], at: usize, came: Came, said: Option<Step>) -> Turn {
+    let Some(a) = said else {
         let end = put(buf, at, b"bad\n");
         return Turn { came, end };
     };

@@ -11,7 +11,7 @@ use Rattle.rules.specs.Text.{space, fields, parts, before, number_of}
 use Rattle.rules.specs.Script.{◌>>=◌, numbers_of, step_with, step_by, step_of}
 use Rattle.rules.proofs.Parts.{parts_front, parts_onward, parts-ended}
 use Rattle.text.specs.declared.Reading.{Reading}
-use Rattle.text.specs.declared.Reading.TheVariants.{Last, Then, Other}
+use Rattle.text.specs.declared.Reading.TheVariants.{Last, Then}
 use Rattle.text.specs.Reading.{letter_of, Behind, ReadAt}
 use Rattle.script.specs.Saying.{within, saying, saying_on}
 use Rattle.script.proofs.Letters.{more_unsaid, by_letter}
@@ -20,25 +20,26 @@ use Rattle.script.proofs.Letters.{more_unsaid, by_letter}
 numbers_from : List ℕ → Reading → Option (List ℕ)
 numbers_from line (Last n) = Some (n ∷ [])
 numbers_from line (Then n next) = numbers_of (fields (drop next line)) >>= λ ns. Some (n ∷ ns)
-numbers_from line Other = None
 
-numbers-read : (line : List ℕ) (at : ℕ) (r : Reading) → ReadAt line at r → numbers_of (fields (drop at line)) ≡ numbers_from line r
+numbers-read : (line : List ℕ) (at : ℕ) (r : Reading) → ReadAt line at (Some r) → numbers_of (fields (drop at line)) ≡ numbers_from line r
 unfolding numbers_of numbers_from
 numbers-read line at (Last n) read = rw (read.behind, read.says)
 numbers-read line at (Then n next) read = rw (read.behind.0, read.says)
-numbers-read line at Other read = rw (parts_front space (drop at line), read.says)
+
+none_read : (line : List ℕ) (at : ℕ) → ReadAt line at None → numbers_of (fields (drop at line)) ≡ None
+unfolding numbers_of
+none_read line at read = rw (parts_front space (drop at line), read.says)
 
 -- the place of the next field
-pub next-within : (line : List ℕ) (at : ℕ) (r : Reading) (m next : ℕ) → ReadAt line at r → r ≡ Then m next → next ≤ length line
-next-within line at r m next read e = (subst (Behind line at) e read.behind).1
+pub next-within : (line : List ℕ) (at : ℕ) (r : Reading) (m next : ℕ) → ReadAt line at (Some r) → r ≡ Then m next → next ≤ length line
+next-within line at r m next read e = (subst (λ (x : Reading). Behind line at (Some x)) e read.behind).1
 
-module _ (c : ℕ) (ns line : List ℕ) (at : ℕ) (r : Reading) (read : ReadAt line at r) where
+pub said_none : (c : ℕ) (ns line : List ℕ) (at : ℕ) → ReadAt line at None → None ≡ saying_on c ns line at
+said_none c ns line at read = rw (none_read line at read)
+
+module _ (c : ℕ) (ns line : List ℕ) (at : ℕ) (r : Reading) (read : ReadAt line at (Some r)) where
   so : (q : Reading) → r ≡ q → saying_on c ns line at ≡ within (numbers_from line q >>= λ ms. step_with (c ∷ []) (ns ++ ms))
-  so q e = rw (numbers-read line at q (subst (ReadAt line at) e read))
-
-  pub said_other : r ≡ Other → None ≡ saying_on c ns line at
-  unfolding numbers_from
-  said_other e = sym (so Other e)
+  so q e = rw (numbers-read line at q (subst (λ (x : Reading). ReadAt line at (Some x)) e read))
 
   pub said-last : (m : ℕ) (o : Option Step) → r ≡ Last m → o ≡ saying c (ns ++ m ∷ []) → o ≡ saying_on c ns line at
   unfolding numbers_from
@@ -63,7 +64,7 @@ module _ (c t n m : ℕ) (line : List ℕ) (next : ℕ) where
   unfolding numbers_of
   too_many_lem = rw (parts_front space (drop next line)) (by_fields (number_of (before space (drop next line))) (numbers_of (drop 1 (parts space (drop next line)))))
 
-pub said_too_much : (c t n m next : ℕ) (line : List ℕ) (at : ℕ) (r : Reading) → ReadAt line at r → r ≡ Then m next → None ≡ saying_on c (t ∷ n ∷ []) line at
+pub said_too_much : (c t n m next : ℕ) (line : List ℕ) (at : ℕ) (r : Reading) → ReadAt line at (Some r) → r ≡ Then m next → None ≡ saying_on c (t ∷ n ∷ []) line at
 said_too_much c t n m next line at r read e = said_then c (t ∷ n ∷ []) line at r read m next None e (too_many_lem c t n m line next)
 
 -- The letter of a line.

@@ -6,20 +6,14 @@ use Rattle.rules.specs.Fresh.{Start}
 use Rattle.rules.specs.Spawning.{spawned}
 use Rattle.rules.specs.Text.{fields, number_of}
 use Rattle.rules.specs.Script.{◌>>=◌, maker_of, numbers_of, clocks_said, start_with}
-use Rattle.script.specs.declared.Maker.{Maker}
-use Rattle.script.specs.declared.Maker.TheVariants.{Task, Nobody}
 use Rattle.script.specs.declared.First.{First}
 use Rattle.script.specs.declared.Opening.{Opening}
-use Rattle.script.specs.declared.Opening.TheVariants.{Spawned, Given, Bad}
+use Rattle.script.specs.declared.Opening.TheVariants.{Spawned, Given}
 use Rattle.script.specs.Saying.{task_named}
-
-abbrev pub maker_said : Maker → Option TaskId
-maker_said (Task t) = Some t
-maker_said Nobody = None
 
 -- a start with its clocks
 abbrev pub start_said : First → List ℕ → Start
-start_said a cs = start_with a.fairness a.stock (maker_said a.maker) a.tasks cs
+start_said a cs = start_with a.fairness a.stock a.maker a.tasks cs
 
 -- the clocks of k tasks that fields say
 abbrev pub clocks_by : ℕ → List (List ℕ) → Option (List ℕ)
@@ -28,20 +22,20 @@ clocks_by k fs = do
   clocks_said k entries
 
 -- the start that an answer tells: its clocks are spawned, or stand in the line from a place on
-abbrev pub opened : List ℕ → Opening → Option Start
-opened line (Spawned a) = Some (start_said a (spawned a.tasks))
-opened line (Given a at) = do
+abbrev pub opened : List ℕ → Option Opening → Option Start
+opened line (Some (Spawned a)) = Some (start_said a (spawned a.tasks))
+opened line (Some (Given a at)) = do
   clocks ← clocks_by a.tasks (fields (drop at line))
   Some (start_said a clocks)
-opened line Bad = None
+opened line None = None
 
-abbrev pub PlaceWithin : List ℕ → Opening → Type 0
-PlaceWithin line (Spawned a) = Unit {0}
-PlaceWithin line (Given a at) = at ≤ length line
-PlaceWithin line Bad = Unit {0}
+abbrev pub PlaceWithin : List ℕ → Option Opening → Type 0
+PlaceWithin line (Some (Spawned a)) = Unit {0}
+PlaceWithin line (Some (Given a at)) = at ≤ length line
+PlaceWithin line None = Unit {0}
 
 -- an answer tells what the line says, o
-pub record Opens (line : List ℕ) (o : Option Start) (r : Opening) : Type 0 where
+pub record Opens (line : List ℕ) (o : Option Start) (r : Option Opening) : Type 0 where
   pub says : opened line r ≡ o
   pub within : PlaceWithin line r
 

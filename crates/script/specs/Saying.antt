@@ -1,5 +1,5 @@
 -- What the readers of lines answer, as the rules see it.
-use Rattle.std.specs.Prelude.{ℕ, min, drop, List, [], ◌∷◌, ◌++◌, Option, None, Some, option_map}
+use Rattle.std.specs.Prelude.{ℕ, min, drop, List, [], ◌∷◌, ◌++◌, Option, Some, option_map}
 use Rattle.rules.specs.declared.TaskId.{TaskId}
 use Rattle.rules.specs.declared.Slot.{Slot}
 use Rattle.rules.specs.declared.Act.{Act}
@@ -7,8 +7,6 @@ use Rattle.rules.specs.declared.Act.TheVariants.{Acquire, AcquireBypassable, Acq
 use Rattle.rules.specs.declared.Step.{Step}
 use Rattle.rules.specs.Text.{fields}
 use Rattle.rules.specs.Script.{◌>>=◌, numbers_of, step_with}
-use Rattle.script.specs.declared.Parsed.{Parsed}
-use Rattle.script.specs.declared.Parsed.TheVariants.{Is, Bad}
 
 -- the task and the slot that a number names: 255, which names none, stands for every larger number too
 abbrev pub task_named : ℕ → TaskId
@@ -37,11 +35,6 @@ step_within a = record { actor = task_named a.actor.0; act = act_within a.act }
 
 abbrev pub within : Option Step → Option Step
 within o = option_map step_within o
-
--- the step that an answer tells
-abbrev pub parsed : Parsed → Option Step
-parsed (Is a) = Some a
-parsed Bad = None
 
 -- an actor's step
 abbrev pub acting_by : ℕ → Act → Option Step

@@ -10,7 +10,7 @@ ghost use Rattle.script.specs.Opening.{start_said};
 ghost use Rattle.reading.specs.Starts.{start_read};
 
 use fresh::Started;
-use script::{First, Maker};
+use script::First;
 
 // With starting clocks, row by row.
 fn start_with(
@@ -29,10 +29,10 @@ fn start_with(
     let fairness = a.fairness;
     let maker = a.maker;
     match maker {
-        Maker::Task(t) => fresh::new(
+        Some(t) => fresh::new(
             fairness, a.stock, a.tasks, starts, t, slots, tasks, sizes, rows, last, makers, clocks,
         ),
-        Maker::Nobody => fresh::const_new(
+        None => fresh::const_new(
             fairness, a.stock, a.tasks, starts, slots, tasks, sizes, rows, last, makers, clocks,
         ),
     }

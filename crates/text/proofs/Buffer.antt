@@ -40,13 +40,3 @@ module _ {old : List ℕ} {at : ℕ} {xs new : List ℕ} {r : ℕ} (p : Appended
         end = rw length-append (omega (arith, p.end, k.end));
         whole = k.whole ∙ rw (appended_first, onward) (simp append_assoc);
       }
-
--- a byte more of a text that is copied, and the whole of it
-pub appended_next : (old w new : List ℕ) (at i : ℕ) → at + length w ≤ length old → i < length w → Appended old at (take i w) new (at + i) → Appended old at (take (i + 1) w) (set new (at + i) (get_or w i 0)) (at + (i + 1))
-appended_next old w new at i fits h p =
-    let f : at + length (take i w) ≤ length old = rw (length-take-le i w (omega arith)) (omega arith) in
-    let m : at + i < length new = omega (arith, appended_length p f) in
-    rw (← add_assoc at i 1, add-one i, take-suc w i 0 h) (appended_then p f (appended_one new (at + i) (get_or w i 0) m))
-
-pub appended_all : (old w new : List ℕ) (at i : ℕ) → length w ≤ i → Appended old at (take i w) new (at + i) → Appended old at w new (at + i)
-appended_all old w new at i h p = rw (take_all i w h) at p

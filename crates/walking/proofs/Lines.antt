@@ -14,9 +14,7 @@ use Rattle.state.specs.declared.Stepped.{Stepped}
 use Rattle.state.specs.View.{Words, view_of, Fit}
 use Rattle.stepping.specs.Contract.{StepsOn}
 use Rattle.stepping.proofs.Carried.{carried}
-use Rattle.script.specs.declared.Parsed.{Parsed}
-use Rattle.script.specs.declared.Parsed.TheVariants.{Is, Bad}
-use Rattle.script.specs.Saying.{parsed, within}
+use Rattle.script.specs.Saying.{within}
 use Rattle.script.proofs.Within.{step-within}
 use Rattle.reading.specs.declared.ReadLine.{ReadLine}
 use Rattle.reading.specs.Steps.{SaysAt}
@@ -28,17 +26,17 @@ same_step s f None = refl
 same_step s f (Some a) = ap Some (step-within s f.tasks f.slots a)
 
 module _ {script : List ℕ} {at : ℕ} {l : ReadLine} (is : SaysAt script at l) {s : BatchSemaphore} {w : Words} {gs : List ℕ} (f : Fit s w gs) where
-  comes-read : (p : Parsed) → l.said ≡ p → comes_to (parsed p) (view_of s w) ≡ comes_to (said step_of is.line) (view_of s w)
+  comes-read : (p : Option Step) → l.said ≡ p → comes_to p (view_of s w) ≡ comes_to (said step_of is.line) (view_of s w)
   comes-read p e =
-      ap (λ (o : Option Step). comes_to o (view_of s w)) (ap parsed (sym e) ∙ is.step) ∙ same_step (view_of s w) f.sound (said step_of is.line)
+      ap (λ (o : Option Step). comes_to o (view_of s w)) (sym e ∙ is.step) ∙ same_step (view_of s w) f.sound (said step_of is.line)
 
-  pub walked_step : {a : Step} {out : Stepped} {v : Words} {hs : List ℕ} → StepsOn s w gs a out v hs → l.said ≡ Is a
+  pub walked_step : {a : Step} {out : Stepped} {v : Words} {hs : List ℕ} → StepsOn s w gs a out v hs → l.said ≡ Some a
       → Comes script at (view_of s w) (record { bad = false; out = out; next = l.next }) v hs
   walked_step {a} {out} {v} {hs} h e =
       record {
         line = is.line;
         shows = is.shows;
-        comes = ap Some (carried s w gs a out v hs h) ∙ comes-read (Is a) e;
+        comes = ap Some (carried s w gs a out v hs h) ∙ comes-read (Some a) e;
         state = refl;
         fit = h.fit;
         few = h.few;
@@ -47,12 +45,12 @@ module _ {script : List ℕ} {at : ℕ} {l : ReadLine} (is : SaysAt script at l)
         within = is.within;
       }
 
-  pub walked_bad : {out : Stepped} → l.said ≡ Bad → out.state ≡ s → out.count ≡ 0 → Comes script at (view_of s w) (record { bad = true; out = out; next = l.next }) w gs
+  pub walked_bad : {out : Stepped} → l.said ≡ None → out.state ≡ s → out.count ≡ 0 → Comes script at (view_of s w) (record { bad = true; out = out; next = l.next }) w gs
   walked_bad e q n =
       record {
         line = is.line;
         shows = is.shows;
-        comes = comes-read Bad e;
+        comes = comes-read None e;
         state = rw q;
         fit = rw q f;
         few = omega (arith, n);

@@ -12,7 +12,7 @@ use queue::{Reservation, Waiters};
 use reading::FirstLine;
 use replies::Reply;
 use rules::Fairness;
-use script::{First, Parsed};
+use script::First;
 use state::{BatchSemaphore, Stepped};
 
 // What the first line came to: a fresh state, refusal 12, nothing that it says, or that there is no line.
@@ -154,7 +154,7 @@ pub fn walk(
     let l = reading::read_line(script, at);
     let said = l.said;
     match said {
-        Parsed::Is(a) => {
+        Some(a) => {
             let out = stepping::step_on(
                 s, slots, tasks, sizes, rows, last, makers, clocks, grants, a,
             );
@@ -164,7 +164,7 @@ pub fn walk(
                 next: l.next,
             }
         }
-        Parsed::Bad => {
+        None => {
             let out = stay(s);
             Walked {
                 bad: true,

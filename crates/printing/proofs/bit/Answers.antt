@@ -1,11 +1,15 @@
 -- `printing::bit`: the digit of each.
+use mathlib.Core.Path.{◌≡◌, refl}
+use mathlib.Core.Bool.{Bool, true, false}
+use Rattle.std.specs.Int.{from_bool}
 use Rattle.rules.specs.Text.{last_digits, digits}
+use Rattle.rules.specs.Script.{closed_text}
 use Rattle.printing.proofs.bit.Goals as goal
 
-pub returns-then-b : goal.returns-then-b
+digit_of : (b : Bool) → digits (from_bool b) ≡ closed_text b
 unfolding digits last_digits
-returns-then-b c = rw c.if-b.true
+digit_of true = refl
+digit_of false = refl
 
-pub returns-else-b : goal.returns-else-b
-unfolding digits last_digits
-returns-else-b c = rw c.if-b.false
+pub returns : goal.returns
+returns c = rw c.from.ensures (digit_of c.args.b)

@@ -1,16 +1,13 @@
 -- `reading::read_start`: a start, its clocks spawned or given, or none.
-use borrow.Author.Rules.{rules}
-use Rattle.reading.proofs.Starts.{given-within, start-spawned, start-given, start_none}
+use Rattle.reading.proofs.Starts.{start-spawned, start-given}
 use Rattle.reading.proofs.read_start.Goals as goal
 
-pub with_clocks-requires : goal.with_clocks-requires
-with_clocks-requires c = search (given-within, rules)
+pub returns-in-Some-Spawned : goal.returns-in-Some-Spawned
+returns-in-Some-Spawned c =
+    let p = rw c.in-Some-Spawned.field-0-is at c.in-Some-Spawned.ensures in
+    start-spawned _ _ _ c.in-Some-Spawned.first p c.spawn.ensures
 
-pub returns-in-Spawned : goal.returns-in-Spawned
-returns-in-Spawned c = search (start-spawned, rules)
-
-pub returns-in-Given : goal.returns-in-Given
-returns-in-Given c = search (start-given, rules)
-
-pub returns-in-Bad : goal.returns-in-Bad
-returns-in-Bad c = search (start_none, rules)
+pub returns-in-Some-Given : goal.returns-in-Some-Given
+returns-in-Some-Given c =
+    let p = rw c.in-Some-Given.field-0-is at c.in-Some-Given.ensures in
+    start-given _ _ _ c.in-Some-Given.first c.in-Some-Given.at _ p c.with_clocks.ensures

@@ -1,13 +1,7 @@
--- `reading::with_clocks`: all of them, or none.
-use borrow.Author.Rules.{rules}
-use Rattle.reading.proofs.Starts.{given_all, given_others, given_unread}
+-- `reading::with_clocks`: all of them.
+use Rattle.reading.proofs.Starts.{given_all}
 use Rattle.reading.proofs.with_clocks.Goals as goal
 
-pub returns-then-are_all : goal.returns-then-are_all
-returns-then-are_all c = search (given_all, rules)
-
-pub returns-else-are_all : goal.returns-else-are_all
-returns-else-are_all c = search (given_others, rules)
-
-pub returns-in-Bad : goal.returns-in-Bad
-returns-in-Bad c = search (given_unread, rules)
+pub returns-in-Some : goal.returns-in-Some
+returns-in-Some c =
+    given_all c.args.first c.args.line.now c.args.at c.args.next c.read_clocks.new.starts c.in-Some.n c.in-Some.ensures c.are_all.result c.are_all.ensures c.if-are_all.true

@@ -6,11 +6,11 @@ use Rattle.script.proofs.start_of.Goals as goal
 pub returns-then-line-e : goal.returns-then-line-e
 returns-then-line-e c = search (start-alone, rules)
 
-pub returns-then-letter-eq83 : goal.returns-then-letter-eq83
-returns-then-letter-eq83 c = search (start-strict, rules)
+pub returns-in-83 : goal.returns-in-83
+returns-in-83 c = search (start-strict, rules)
 
-pub returns-then-letter-eq85 : goal.returns-then-letter-eq85
-returns-then-letter-eq85 c = search (start-unfair, rules)
+pub returns-in-85 : goal.returns-in-85
+returns-in-85 c = search (start-unfair, rules)
 
-pub returns : goal.returns
-returns c = search (start_neither, rules)
+pub returns-in_default : goal.returns-in_default
+returns-in_default c = search (start_neither, rules)

@@ -7,11 +7,11 @@ use Rattle.script.proofs.stock_at.Goals as goal
 pub maker_at-requires : goal.maker_at-requires
 maker_at-requires c = search (next-within, rules)
 
+pub returns-in_err-number_at : goal.returns-in_err-number_at
+returns-in_err-number_at c = search (stock_none, rules)
+
 pub returns-in-Last : goal.returns-in-Last
 returns-in-Last c = search (stock-last, rules)
 
 pub returns-in-Then : goal.returns-in-Then
 returns-in-Then c = search (stock_then, rules)
-
-pub returns-in-Other : goal.returns-in-Other
-returns-in-Other c = search (stock_none, rules)
