@@ -8,14 +8,14 @@ use mathlib.Core.List.{List}
 use mathlib.Core.Logic.{◌⊎◌, inl, inr, ⊎_elim, ◌↔◌}
 use borrow.Author.Tests.{ltb-false, leb-true, eqb-true, not-true, not-false, lt-ltb, le-ltb, le-leb, lt-leb, eq-eqb, ne_eqb}
 use lib.Dec.{eqb, leb}
-use lib.ListN.{length, take}
+use lib.ListN.{length}
 use Rattle.rules.proofs.Bools.{both}
 use Rattle.bundle_rules.specs.declared.Refusal.{Refusal}
 use Rattle.bundle_rules.specs.declared.Refusal.TheVariants.{CutShort, TooMany, BadName, BadBodies}
-use Rattle.bundle_rules.specs.Bundled.{name_length, most_scripts, longest, contents_length, Entry, well_named}
+use Rattle.bundle_rules.specs.Bundled.{most_scripts, longest, contents_length, Entry, well_named}
 use Rattle.bundle_rules.specs.Reading.{refused, holds, or_refused, entries_of}
 use Rattle.bundle.specs.declared.Contents.{Contents}
-use Rattle.bundle.specs.Contents.{stretches, names_in, sizes_in, sum_of, Lent}
+use Rattle.bundle.specs.Contents.{names_in, sizes_in, sum_of, Lent}
 use Rattle.bundle.specs.Writes.{whole_length, ground_against, ground_to_write, turn_of, FirstAgainst, write_as, Arrays}
 
 -- No ground holds.
@@ -154,46 +154,43 @@ module _ (c : Contents) (bs : List ℕ) (room : ℕ) where
       }
 
 -- The tests as the writer makes them, on what it is lent: r says whether the names are good, and k is the sum of the lengths.
-module _ (ms ls bs : List ℕ) (n room : ℕ) where
-  abbrev lent : Contents
-  lent = record { count = n; names = ms; lengths = ls }
-
-  pub told_many : most_scripts < n → Some TooMany ≡ ground_to_write lent bs room
+module _ (c : Contents) (bs : List ℕ) (room : ℕ) where
+  pub told_many : most_scripts < c.count → Some TooMany ≡ ground_to_write c bs room
   unfolding ground_to_write
-  told_many h = rw (lt-ltb most_scripts n h)
+  told_many h = rw (lt-ltb most_scripts c.count h)
 
-  module _ (r : Bool) (few : n ≤ most_scripts) (e : r ≡ well_named (stretches name_length n ms)) where
-    pub told-name : not r ≡ true → Some BadName ≡ ground_to_write lent bs room
+  module _ (r : Bool) (few : c.count ≤ most_scripts) (e : r ≡ well_named (names_in c)) where
+    pub told-name : not r ≡ true → Some BadName ≡ ground_to_write c bs room
     unfolding ground_to_write
-    told-name h = rw (le-ltb most_scripts n few, ← e, not-true r h)
+    told-name h = rw (le-ltb most_scripts c.count few, ← e, not-true r h)
 
-    module _ (k : ℕ) (named : not r ≡ false) (d : k ≡ sum_of (take n ls)) where
-      good : well_named (stretches name_length n ms) ≡ true
+    module _ (k : ℕ) (named : not r ≡ false) (d : k ≡ sum_of (sizes_in c)) where
+      good : well_named (names_in c) ≡ true
       good = sym e ∙ not-false r named
 
-      pub told-sum : (k ≡ length bs → ⊥) → Some BadBodies ≡ ground_to_write lent bs room
+      pub told-sum : (k ≡ length bs → ⊥) → Some BadBodies ≡ ground_to_write c bs room
       unfolding ground_to_write
-      told-sum h = rw (le-ltb most_scripts n few, good, ← d, ne_eqb k (length bs) h)
+      told-sum h = rw (le-ltb most_scripts c.count few, good, ← d, ne_eqb k (length bs) h)
 
       module _ (added : k ≡ length bs) where
-        pub told-long : longest - contents_length n < length bs → Some BadBodies ≡ ground_to_write lent bs room
+        pub told-long : longest - contents_length c.count < length bs → Some BadBodies ≡ ground_to_write c bs room
         unfolding ground_to_write
         told-long h =
-            rw (le-ltb most_scripts n few, good, ← d, eq-eqb k (length bs) added, lt-leb (contents_length n + length bs) longest (omega arith))
+            rw (le-ltb most_scripts c.count few, good, ← d, eq-eqb k (length bs) added, lt-leb (contents_length c.count + length bs) longest (omega arith))
 
-        module _ (short : length bs ≤ longest - contents_length n) where
-          pub told-room : room < contents_length n + length bs → Some CutShort ≡ ground_to_write lent bs room
+        module _ (short : length bs ≤ longest - contents_length c.count) where
+          pub told-room : room < contents_length c.count + length bs → Some CutShort ≡ ground_to_write c bs room
           unfolding ground_to_write
           told-room h =
               rw (
-                le-ltb most_scripts n few,
+                le-ltb most_scripts c.count few,
                 good,
                 ← d,
                 eq-eqb k (length bs) added,
-                le-leb (contents_length n + length bs) longest (omega arith),
-                lt-ltb room (contents_length n + length bs) h,
+                le-leb (contents_length c.count + length bs) longest (omega arith),
+                lt-ltb room (contents_length c.count + length bs) h,
               )
 
-          pub told_none : contents_length n + length bs ≤ room → None ≡ ground_to_write lent bs room
+          pub told_none : contents_length c.count + length bs ≤ room → None ≡ ground_to_write c bs room
           told_none h =
-              sym (writable_none lent bs room (record { few = few; named = good; added = sym d ∙ added; short = omega arith; roomy = h }))
+              sym (writable_none c bs room (record { few = few; named = good; added = sym d ∙ added; short = omega arith; roomy = h }))

@@ -1,12 +1,12 @@
 -- The first ground that holds, and what it tells of the bytes of a bundle.
 use Rattle.std.specs.Prelude.{Result, Ok, Err}
-use Prim.Native.Nat.{ℕ, min, ◌+◌, ◌*◌, ◌≤◌, ◌<◌}
+use Prim.Native.Nat.{ℕ, ◌+◌, ◌≤◌, ◌<◌}
 use native.Mathlib.Decide.{dec_lt}
 use native.Mathlib.Omega.{arith}
 use mathlib.Core.Path.{◌≡◌, refl, sym, ◌∙◌}
 use mathlib.Core.Bool.{Bool, true, false, not, ◌&&◌}
 use mathlib.Core.List.{List}
-use borrow.Author.Tests.{lt-ltb, le-ltb, le-leb, lt-leb, ltb-false}
+use borrow.Author.Tests.{lt-ltb, le-ltb, ltb-false}
 use lib.Dec.{leb, ltb}
 use lib.ListN.{length, take, drop}
 use Rattle.bundle_rules.specs.declared.Refusal.{Refusal}
@@ -17,14 +17,6 @@ use Rattle.bundle_rules.specs.Reading.{count_of, rows_of, names_of, sizes_of, in
 use Rattle.bundle.specs.declared.Contents.{Contents}
 use Rattle.bundle.specs.Contents.{stretches}
 use Rattle.bundle.specs.Reads.{Judges, Taken, Enough, Whole}
-
-and_no : (x : Bool) → false ≡ x && false
-and_no true = refl
-and_no false = refl
-
-and_yes : (x : Bool) → x ≡ x && true
-and_yes true = refl
-and_yes false = refl
 
 abbrev well_placed : List ℕ → ℕ → ℕ → Bool
 well_placed s n more = in_order (contents_length n) (rows_of n (drop 4 s)) (length s + more) && leb (length s + more) longest
@@ -62,15 +54,6 @@ module _ (s : List ℕ) (n more : ℕ) (cut : Bool) (q : NumberAt s 0 n) (k : cu
         enough = l;
       }
 
--- Whether the table is cut: a sum that is held at 2^64 - 1 is as long as any table.
-
-pub is_short : (kept more n here : ℕ) → n < 4294967296 → here ≡ min (kept + more) 18446744073709551615 → ltb here (4 + 24 * n) ≡ ltb (kept + more) (contents_length n)
-is_short kept more n here f e =
-    elim (dec_lt (kept + more) (contents_length n)) [
-      | yes k ↦ lt-ltb here (4 + 24 * n) (omega arith) ∙ sym (lt-ltb (kept + more) (contents_length n) k)
-      | no k ↦ le-ltb here (4 + 24 * n) (omega arith) ∙ sym (le-ltb (kept + more) (contents_length n) (omega arith))
-    ]
-
 -- Where a whole table stands.
 
 module _ (s : List ℕ) (n more : ℕ) (w : Whole s n more) where
@@ -79,20 +62,6 @@ module _ (s : List ℕ) (n more : ℕ) (w : Whole s n more) where
 
   not_many : ltb most_scripts n ≡ false
   not_many = le-ltb most_scripts n w.few
-
-  too_long : longest < length s + more → false ≡ well_placed s n more
-  too_long h = rw (lt-leb (length s + more) longest h) (and_no (in_order (contents_length n) (rows_of n (drop 4 s)) (length s + more)))
-
-  pub whole_too_long : longest < length s → false ≡ well_placed s n more
-  whole_too_long h = too_long (omega arith)
-
-  pub more_than_kept : 0 < more → false ≡ well_placed s n more
-  more_than_kept h = too_long (omega (arith, w.enough.long h))
-
-  pub not_too_long : (r : Bool) → more ≤ 0 → length s ≤ longest → r ≡ in_order (contents_length n) (rows_of n (drop 4 s)) (length s) → r ≡ well_placed s n more
-  not_too_long r z l e =
-      let k : length s + more ≡ length s = omega arith in
-      rw (k, le-leb (length s) longest l) (e ∙ and_yes (in_order (contents_length n) (rows_of n (drop 4 s)) (length s)))
 
   module _ (ms : List ℕ) (named : Bool) (e : stretches 16 n ms ≡ names_of (rows_of n (drop 4 s))) (k : named ≡ well_named (stretches 16 n ms)) where
     pub name-refused : (r : Result Contents Refusal) → not named ≡ true → r ≡ Err BadName → Judges s more r

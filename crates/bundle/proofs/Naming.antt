@@ -1,27 +1,15 @@
--- One name, and name after name.
+-- Name after name.
 use Prim.Native.Nat.{ℕ, suc, ◌+◌, ◌-◌, ◌*◌, ◌≤◌, ◌<◌}
 use native.Mathlib.Nat.{add-sub_cancel_left}
 use native.Mathlib.Omega.{arith}
 use mathlib.Core.Path.{◌≡◌, sym, ap, ◌∙◌}
 use mathlib.Core.Bool.{Bool, true, false, not, ◌&&◌}
 use mathlib.Core.List.{List}
-use borrow.Author.Tests.{le-leb, not-true, not-false}
-use lib.ListN.{length, take, drop}
+use borrow.Author.Tests.{not-true, not-false}
+use lib.ListN.{take, drop}
 use lib.Seq.{drop-drop}
-use Rattle.rules.specs.Text.{before}
-use Rattle.text.specs.Reading.{Found}
-use Rattle.bundle_rules.specs.Bundled.{zeros, well_made, well_named}
+use Rattle.bundle_rules.specs.Bundled.{well_made, well_named}
 use Rattle.bundle.specs.Contents.{stretches}
-
-module _ (m : List ℕ) (e : ℕ) (f : Found m 0 0 e) where
-  front : length (before 0 m) ≡ e
-  front = omega (arith, f.place)
-
-  pub zero-first : e ≡ 0 → false ≡ well_made m
-  zero-first z = rw (front ∙ z)
-
-  pub zeros-behind : (r : Bool) → (e ≡ 0 → ⊥) → r ≡ zeros (drop e m) → r ≡ well_made m
-  zeros-behind r z q = rw (front, le-leb 1 e (omega arith)) q
 
 module _ (ms : List ℕ) (n i : ℕ) (so_far : well_named (stretches 16 n ms) ≡ well_named (stretches 16 (n - i) (drop (16 * i) ms))) where
   next : i < n → well_named (stretches 16 n ms) ≡ well_made (take (16 * i + 16 - 16 * i) (drop (16 * i) ms)) && well_named (stretches 16 (n - (i + 1)) (drop (16 * (i + 1)) ms))

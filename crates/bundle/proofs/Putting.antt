@@ -101,9 +101,6 @@ module _ (old m₁ m₂ ms ls bs new : List ℕ) (n p q r : ℕ) (room : content
   rows_fit : number_length + length (rows_bytes n ms ls) ≤ length m₁
   rows_fit = omega (arith, b.end, b.rows.end, appended_length a count_fits)
 
-  pub room-bodies : q + length bs ≤ length m₂
-  room-bodies = omega (arith, b.end, appended_length a count_fits, appended_length b.rows rows_fit)
-
   pub bundle_put : Appended m₂ q bs new r → BundlePut old ms ls n bs new r
   bundle_put d =
       let e : p ≡ number_length = omega (arith, a.end, number-length n) in

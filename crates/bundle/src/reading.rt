@@ -12,8 +12,8 @@ use super::{Contents, LONGEST, MOST, NAME, ROW, ROW_64};
 use bundle_rules::Refusal;
 
 // The names of n rows, one behind the other.
-fn read_names(s: &[u8], n: usize, names: &mut [u8])
-    requires { (n ≤ most_scripts) × (contents_length n ≤ length s.now) × (length names.old ≡ name_length * most_scripts) }
+fn read_names(s: &[u8], n: usize, names: &mut [u8; 4096])
+    requires { (n ≤ most_scripts) × (contents_length n ≤ length s.now) }
     ensures { stretches name_length n names.new ≡ names_of (rows_of n (drop number_length s.now)) }
 {
     for i in 0..n {
@@ -23,8 +23,8 @@ fn read_names(s: &[u8], n: usize, names: &mut [u8])
 }
 
 // The lengths of n rows.
-fn read_lengths(s: &[u8], n: usize, lengths: &mut [u32])
-    requires { (n ≤ most_scripts) × (contents_length n ≤ length s.now) × (length lengths.old ≡ most_scripts) }
+fn read_lengths(s: &[u8], n: usize, lengths: &mut [u32; 256])
+    requires { (n ≤ most_scripts) × (contents_length n ≤ length s.now) }
     ensures { take n lengths.new ≡ sizes_of (rows_of n (drop number_length s.now)) }
 {
     for i in 0..n {
@@ -127,8 +127,8 @@ pub fn read_counted(kept: &[u8], more: u64) -> Result<Contents, Refusal>
 }
 
 // The lengths of the first n scripts, added up.
-pub fn sum(lengths: &[u32], n: usize) -> u64
-    requires { (n ≤ most_scripts) × (length lengths.now ≡ most_scripts) }
+pub fn sum(lengths: &[u32; 256], n: usize) -> u64
+    requires { n ≤ most_scripts }
     ensures { Sums lengths.now n result }
 {
     let mut total: u64 = 0;
@@ -139,8 +139,8 @@ pub fn sum(lengths: &[u32], n: usize) -> u64
 }
 
 // Where the body of script i of n stands: behind the contents and the bodies before it.
-fn start_of(lengths: &[u32], n: usize, i: usize) -> usize
-    requires { (n ≤ most_scripts) × (i < n) × (length lengths.now ≡ most_scripts) }
+fn start_of(lengths: &[u32; 256], n: usize, i: usize) -> usize
+    requires { (n ≤ most_scripts) × (i < n) }
     ensures { (result ≡ contents_length n + sum_of (take i lengths.now)) × (result ≤ contents_length n + 4294967296 * i) }
 {
     4 + ROW * n + sum(lengths, i) as usize
@@ -157,9 +157,8 @@ pub fn body(bundle: &[u8], contents: Contents, i: usize) -> &[u8]
     if n <= i {
         return &bundle[..0];
     }
-    let lengths = contents.lengths;
-    let start = start_of(&lengths, n, i);
-    let end = start + lengths[i] as usize;
+    let start = start_of(&contents.lengths, n, i);
+    let end = start + contents.lengths[i] as usize;
     if bundle.len() < end {
         return &bundle[..0];
     }

@@ -24,48 +24,47 @@ fn put_row(out: &mut [u8], at: usize, name: &[u8], offset: u32, size: u32) -> us
 }
 
 // The rows of n scripts, behind the count. The offsets are below 65,536.
-fn put_rows(out: &mut [u8], names: &[u8], lengths: &[u32], n: usize) -> usize
-    requires { Lent names.now lengths.now n longest × (contents_length n ≤ length out.old) }
-    ensures { RowsPut out.old names.now lengths.now n out.new result }
+fn put_rows(out: &mut [u8], contents: &Contents) -> usize
+    requires { Lent contents.now.names contents.now.lengths contents.now.count longest × (contents_length contents.now.count ≤ length out.old) }
+    ensures { RowsPut out.old contents.now.names contents.now.lengths contents.now.count out.new result }
 {
     let mut at: usize = 4;
-    let mut offset: u32 = 4 + ROW_32 * n as u32;
-    for i in 0..n {
+    let mut offset: u32 = 4 + ROW_32 * contents.count;
+    for i in 0..contents.count as usize {
         let a = NAME * i;
-        let size = lengths[i];
-        at = put_row(out, at, &names[a..a + NAME], offset, size);
+        let size = contents.lengths[i];
+        at = put_row(out, at, &contents.names[a..a + NAME], offset, size);
         offset += size;
     }
     at
 }
 
 // Count, rows and bodies.
-fn put_bundle(out: &mut [u8], names: &[u8], lengths: &[u32], n: u32, bodies: &[u8]) -> usize
-    requires { LentWhole names.now lengths.now n bodies.now (length out.old) }
-    ensures { BundlePut out.old names.now lengths.now n bodies.now out.new result }
+fn put_bundle(out: &mut [u8], contents: &Contents, bodies: &[u8]) -> usize
+    requires { LentWhole contents.now.names contents.now.lengths contents.now.count bodies.now (length out.old) }
+    ensures { BundlePut out.old contents.now.names contents.now.lengths contents.now.count bodies.now out.new result }
 {
-    put_number(out, 0, n);
-    let p = put_rows(out, names, lengths, n as usize);
+    put_number(out, 0, contents.count);
+    let p = put_rows(out, contents);
     text::put(out, p, bodies)
 }
 
 // Why nothing is written, in the writer's order.
-fn ground(names: &[u8], lengths: &[u32], n: u32, bodies: &[u8], room: usize) -> Result<(), Refusal>
-    requires { (length names.now ≡ name_length * most_scripts) × (length lengths.now ≡ most_scripts) }
-    ensures { result_err result ≡ ground_to_write (record { count = n; names = names.now; lengths = lengths.now }) bodies.now room }
+fn ground(contents: &Contents, bodies: &[u8], room: usize) -> Result<(), Refusal>
+    ensures { result_err result ≡ ground_to_write contents.now bodies.now room }
 {
-    if MOST < n {
+    if MOST < contents.count {
         return Err(Refusal::TooMany);
     }
-    let k = n as usize;
-    if !well_named(names, k) {
+    let n = contents.count as usize;
+    if !well_named(&contents.names, n) {
         return Err(Refusal::BadName);
     }
     let size = bodies.len();
-    if sum(lengths, k) != size as u64 {
+    if sum(&contents.lengths, n) != size as u64 {
         return Err(Refusal::BadBodies);
     }
-    let table = 4 + ROW * k;
+    let table = 4 + ROW * n;
     if LONGEST - table < size {
         return Err(Refusal::BadBodies);
     }
@@ -79,9 +78,6 @@ fn ground(names: &[u8], lengths: &[u32], n: u32, bodies: &[u8], room: usize) -> 
 pub fn write(contents: Contents, bodies: &[u8], out: &mut [u8]) -> Result<usize, Refusal>
     ensures { Writes contents bodies.now out.old out.new result }
 {
-    let n = contents.count;
-    let names = contents.names;
-    let lengths = contents.lengths;
-    ground(&names, &lengths, n, bodies, out.len())?;
-    Ok(put_bundle(out, &names, &lengths, n, bodies))
+    ground(&contents, bodies, out.len())?;
+    Ok(put_bundle(out, &contents, bodies))
 }

@@ -1,7 +1,7 @@
 -- `list`: no room, a refusal, or the rows.
 use lib.ListN.{length}
 use borrow.Author.Rules.{rules}
-use Rattle.bundle_jobs.proofs.Telling.{prints_none, refusal-room, ends-short, list_room, prints_refused, list_refused, prints_rows}
+use Rattle.bundle_jobs.proofs.Telling.{lent_by, prints_none, refusal-room, ends-short, list_room, prints_refused, list_refused, prints_rows}
 use Rattle.bundle_jobs.proofs.list.Goals as goal
 
 pub returns-then-out-bundle : goal.returns-then-out-bundle
@@ -10,9 +10,9 @@ returns-then-out-bundle c = search (prints_none, rules)
 pub put_refusal-requires : goal.put_refusal-requires
 put_refusal-requires c = search (refusal-room, rules)
 
-pub list_all-requires : goal.list_all-requires
-list_all-requires c =
-    (ends-short c.args.bundle.now c.args.more c.in-Ok.contents c.in-Ok.ensures, list_room c.args.bundle.now c.args.more c.in-Ok.contents c.in-Ok.ensures (length c.args.out.now) c.if-out-bundle.false)
+pub put_rows-requires : goal.put_rows-requires
+put_rows-requires c =
+    (lent_by (ends-short c.args.bundle.now c.args.more c.in-Ok.contents c.in-Ok.ensures) (search rules) (search rules), list_room c.args.bundle.now c.args.more c.in-Ok.contents c.in-Ok.ensures (length c.args.out.now) c.if-out-bundle.false)
 
 pub returns-in-Err : goal.returns-in-Err
 returns-in-Err c =
@@ -20,4 +20,4 @@ returns-in-Err c =
 
 pub returns-in-Ok : goal.returns-in-Ok
 returns-in-Ok c =
-    prints_rows c.args.bundle.now c.args.more c.in-Ok.contents c.in-Ok.ensures _ _ _ c.if-out-bundle.false c.list_all.ensures
+    prints_rows c.args.bundle.now c.args.more c.in-Ok.contents c.in-Ok.ensures _ _ _ c.if-out-bundle.false c.put_rows.ensures

@@ -3,8 +3,8 @@ use borrow.Author.Rules.{rules}
 use Rattle.bundle.proofs.Grounds.{told_many, told-name, told-sum, told-long, told-room, told_none}
 use Rattle.bundle.proofs.writing.ground.Goals as goal
 
-pub returns-then-n-gt-MOST : goal.returns-then-n-gt-MOST
-returns-then-n-gt-MOST c = search (told_many, rules)
+pub returns-then-contents-gt-MOST : goal.returns-then-contents-gt-MOST
+returns-then-contents-gt-MOST c = search (told_many, rules)
 
 pub returns-then-not-well_named : goal.returns-then-not-well_named
 returns-then-not-well_named c = search (told-name, rules)

@@ -3,4 +3,4 @@ use Rattle.bundle.proofs.Putting.{Putting}
 use Rattle.bundle.proofs.writing.put_rows.Given as goal
 
 abbrev pub invariant-loop-i : goal.invariant-loop-i
-invariant-loop-i l = Putting l.initial.out l.names l.lengths l.n l.out l.at l.offset l.i
+invariant-loop-i l = Putting l.initial.out l.contents.names l.contents.lengths l.contents.count l.out l.at l.offset l.i

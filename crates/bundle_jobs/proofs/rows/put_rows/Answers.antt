@@ -1,10 +1,7 @@
 use native.Mathlib.Omega.{arith}
 use borrow.Author.Rules.{rules}
-use Rattle.bundle_jobs.proofs.Turns.{turn_none, turn-length, turn_end, row_room_lem, row_more, rows_end}
+use Rattle.bundle_jobs.proofs.Turns.{turn-length, turn_end, row_room_lem, row_more, rows_end}
 use Rattle.bundle_jobs.proofs.rows.put_rows.Goals as goal
-
-pub loop-i-init : goal.loop-i-init
-loop-i-init c = search (turn_none, rules)
 
 pub put_row-at-requires : goal.put_row-at-requires
 put_row-at-requires c = search (row_room_lem, rules)

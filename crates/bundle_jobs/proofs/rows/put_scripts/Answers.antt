@@ -1,10 +1,7 @@
 use native.Mathlib.Omega.{arith}
 use borrow.Author.Rules.{rules}
-use Rattle.bundle_jobs.proofs.Turns.{turn_none, turn_end, script_fits, script_more, scripts_length, scripts_end}
+use Rattle.bundle_jobs.proofs.Turns.{turn_end, script_fits, script_more, scripts_length, scripts_end}
 use Rattle.bundle_jobs.proofs.rows.put_scripts.Goals as goal
-
-pub loop-i-init : goal.loop-i-init
-loop-i-init c = search (turn_none, rules)
 
 pub overflow_cast-size : goal.overflow_cast-size
 overflow_cast-size c =

@@ -1,11 +1,7 @@
 -- `rows::put_scripts`: i scripts are run, and those behind them are left.
-use Prim.Native.Nat.{◌-◌}
 use Rattle.bundle_jobs.specs.Placing.{scripts_at}
 use Rattle.bundle_jobs.proofs.Turns.{Turn}
 use Rattle.bundle_jobs.proofs.rows.put_scripts.Given as goal
 
 abbrev pub invariant-loop-i : goal.invariant-loop-i
-invariant-loop-i l = Turn (scripts_at l.bundle) l.names l.lengths l.n l.initial.out l.i l.from l.out l.at
-
-abbrev pub decreases-loop-i : goal.decreases-loop-i
-decreases-loop-i l = l.n - l.i
+invariant-loop-i l = Turn (scripts_at l.bundle) l.contents.names l.contents.lengths l.contents.count l.initial.out l.i l.from l.out l.at
