@@ -25,7 +25,8 @@ pub const ROW_64: u64 = ROW as u64;
 
 pub const ROW_32: u32 = ROW as u32;
 
-// How many scripts, their names one behind the other, and their lengths. Offsets follow from them.
+// How many scripts, their names one behind the other, and their lengths. Offsets follow from them. The count stands beside the arrays, as
+// any may be handed in: `write` refuses one above 256 with 21.
 #[derive(Clone, Copy)]
 pub struct Contents {
     pub count: u32,

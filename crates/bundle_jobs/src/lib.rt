@@ -14,7 +14,8 @@ pub const OUTPUT: usize = trace::BYTE_ROOM * (trace::INPUT + 1);
 
 const NAME: usize = bundle::NAME;
 
-// `run` and `list` stay two: what they share is six lines, and one function over what is done would ask three clauses more of each.
+// `run` and `list` stay two: they share six lines, and one function over what is done with the contents would need clauses of its own for
+// the room, the text and the buffer of each.
 
 // Runs each script of a bundle in order: a line `> NAME`, and what `semtrace` prints for it; a refused bundle prints `r` and its number.
 // `more` bytes stand behind those that are handed in. Answers how many bytes it wrote; with less room than `BYTE_ROOM` bytes for each

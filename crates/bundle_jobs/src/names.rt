@@ -4,7 +4,7 @@ ghost use Rattle.bundle_jobs.specs.Named.{last_part, name_for};
 
 use super::NAME;
 
-// Where the last part of a path begins.
+// Where the last part of a path begins. The loop goes from slash to slash by `find`: no place is counted by hand, and a `for` is no plainer.
 fn last_part(path: &[u8]) -> usize
     ensures { (drop result path.now ≡ last_part path.now) × (result ≤ length path.now) }
 {
