@@ -2,7 +2,7 @@
 // numbers. Nothing here is part of the promises: it is one side of the comparison with the Rust. What does not fit a buffer is not written.
 #![tactic(auto)]
 
-ghost use Rattle.std.specs.Prelude.{◌≡◌, ◌-◌, ◌≤◌};
+ghost use Rattle.std.specs.Prelude.{◌≤◌};
 ghost use Rattle.rules.specs.Sizes.{slot_count};
 
 use arrays::{Arrays, Came};
@@ -13,23 +13,16 @@ use queue::Waiters;
 use replies::Reply;
 use state::{BatchSemaphore, Stepped};
 
-// What is left behind a place.
-fn left(len: usize, at: usize) -> usize
-    ensures { result ≡ len - at }
-{
-    if at < len { len - at } else { 0 }
-}
-
 // Bytes at a place of a buffer; the place after them.
 pub fn put(buf: &mut [u8], at: usize, w: &[u8]) -> usize {
-    if left(buf.len(), at) <= w.len() {
+    if buf.len().saturating_sub(at) <= w.len() {
         return at;
     }
     text::put(buf, at, w)
 }
 
 fn put_digits(buf: &mut [u8], at: usize, n: u32) -> usize {
-    if left(buf.len(), at) < 11 {
+    if buf.len().saturating_sub(at) < 11 {
         return at;
     }
     text::print_number(buf, at, n)
@@ -41,23 +34,25 @@ fn put_number(buf: &mut [u8], at: usize, n: u32) -> usize {
 }
 
 fn word(words: &[u32], at: usize) -> u32 {
-    if at < words.len() { words[at] } else { 0 }
+    words.get(at).copied().unwrap_or(0)
 }
 
 // The place so far behind another; behind the last comes the first, as in a ring.
 fn behind(at: usize, by: usize, len: usize) -> usize {
-    if left(len, at) <= by { 0 } else { at + by }
+    if len.saturating_sub(at) <= by {
+        0
+    } else {
+        at + by
+    }
 }
 
 // n words from a place on.
 fn put_words(buf: &mut [u8], at: usize, words: &[u32], from: usize, n: usize) -> usize {
     let mut p = at;
     let mut k = from;
-    let mut i: usize = 0;
-    while i < n {
+    for _ in 0..n {
         p = put_number(buf, p, word(words, k));
         k = behind(k, 1, words.len());
-        i += 1;
     }
     p
 }
@@ -80,10 +75,8 @@ fn put_item(
     n: usize,
     slots: &[u32],
 ) -> usize {
-    if 0 < slots.len() {
-        if word(slots, i as usize * 10) == 0 {
-            return at;
-        }
+    if !slots.is_empty() && word(slots, i as usize * 10) == 0 {
+        return at;
     }
     put_row(buf, at, &[kind, i], words, k, n)
 }
@@ -102,44 +95,35 @@ fn put_table(
 ) -> usize {
     let mut p = at;
     let mut k = from;
-    let mut i: u32 = 0;
-    while i < count {
+    for i in 0..count {
         p = put_item(buf, p, kind, i, words, k, n, slots);
         k = behind(k, wide, words.len());
-        i += 1;
     }
     p
 }
 
-// How many of n items stand in an array.
-fn standing(n: u32, most: u32) -> u32 {
-    if n < most { n } else { most }
-}
-
-fn waiter(waiters: Waiters, i: u32) -> u32 {
-    let at = i as usize % 32;
-    let x = waiters.slots[at];
-    x.0 as u32
-}
-
-fn put_waiters(buf: &mut [u8], at: usize, waiters: Waiters, n: u32) -> usize {
+fn put_waiters(buf: &mut [u8], at: usize, waiters: Waiters) -> usize {
     let mut p = at;
-    let mut i: u32 = 0;
-    while i < n {
-        p = put_number(buf, p, waiter(waiters, i));
-        i += 1;
+    for x in &waiters.slots[..waiters.len.min(32) as usize] {
+        p = put_number(buf, p, u32::from(x.0));
     }
     p
 }
 
 // The queue, and the reservation.
 fn put_queue(buf: &mut [u8], at: usize, h: Head) -> usize {
-    let waiters = h.waiters;
     let r = h.reservation;
     let p = put_number(buf, at, 6);
-    let q = put_waiters(buf, p, waiters, standing(waiters.len, 32));
+    let q = put_waiters(buf, p, h.waiters);
     let e = put(buf, q, b"\n");
-    put_row(buf, e, &[7], &[r.slot.0 as u32], 0, bit(r.made) as usize)
+    put_row(
+        buf,
+        e,
+        &[7],
+        &[u32::from(r.slot.0)],
+        0,
+        bit(r.made) as usize,
+    )
 }
 
 // The batches from the oldest on, and their clocks of n entries.
@@ -148,7 +132,7 @@ fn put_batches(buf: &mut [u8], at: usize, b: Batches, n: usize, w: Arrays) -> us
     let ring = b
         .permit_clocks
         .unwrap_or(PermitClocks { head: 0, count: 0 });
-    let count = standing(ring.count, 64);
+    let count = ring.count.min(64);
     let first = ring.head as usize;
     let p = put_row(buf, at, &[3, ready], &w.sizes, first, count as usize);
     put_table(buf, p, 4, count, &w.rows, first * 16, 16, n, &[])
@@ -178,7 +162,7 @@ fn put_requests(buf: &mut [u8], at: usize, n: usize, w: Arrays) -> usize {
 
 fn put_state(buf: &mut [u8], at: usize, s: BatchSemaphore, w: Arrays) -> usize {
     let h = s.head;
-    let n = standing(h.tasks, 16);
+    let n = h.tasks.min(16);
     let p7 = put_semaphore(buf, at, s, n as usize, w);
     let p9 = put_tasks(buf, p7, n, w);
     put_requests(buf, p9, n as usize, w)
@@ -190,7 +174,7 @@ fn put_line(buf: &mut [u8], at: usize, r: Stepped, grants: &[u32; 96]) -> usize 
     let reply = r.reply;
     let s = r.state;
     let c = printing::counts_of(s.head);
-    if left(buf.len(), at) < printing::line_room(reply, c, n) {
+    if buf.len().saturating_sub(at) < printing::line_room(reply, c, n) {
         return at;
     }
     printing::print_line(buf, at, reply, c, grants, n as usize)
@@ -200,7 +184,7 @@ fn put_line(buf: &mut [u8], at: usize, r: Stepped, grants: &[u32; 96]) -> usize 
 fn grants_of(count: usize) -> u8
     ensures { result ≤ slot_count }
 {
-    if count < 32 { count as u8 } else { 32 }
+    count.min(32) as u8
 }
 
 // The rows of an accepted step: what its questions about points were told, its grants, and the state.
