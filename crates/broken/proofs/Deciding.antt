@@ -12,9 +12,9 @@ use Rattle.rules.specs.Sizes.{slot_count}
 use Rattle.rules.specs.Broken.{any_of, reserved_slots}
 use Rattle.splitting.specs.Plain.{Request as RequestRule}
 use Rattle.splitting.specs.Broken.{cannot_wait}
-use Rattle.queue.specs.declared.Reservation.{Reservation}
+use Rattle.rules.specs.declared.Slot.{Slot}
 use Rattle.queue.specs.declared.Waiters.{Waiters}
-use Rattle.queue.specs.View.{waiters_of, reservation_of}
+use Rattle.queue.specs.View.{waiters_of}
 use Rattle.queue.proofs.Lists.{waiters-length}
 use Rattle.records.specs.declared.Request.{Request}
 use Rattle.records.specs.View.{request_of, Stands}
@@ -40,24 +40,24 @@ slots_judged n fair w v seen r l h m e =
 abbrev unable : ℕ → Request → Bool
 unable n r = not r.used || r.queued || not r.ask.reserving || cannot_wait n (request_of r)
 
-module _ (n : ℕ) (rs : List (Option RequestRule)) (v : Reservation) where
-  pub unreserved : v.made ≡ false → false ≡ any_of (misreserved n rs) (reserved_slots (reservation_of v))
+module _ (n : ℕ) (rs : List (Option RequestRule)) (v : Option Slot) where
+  pub unreserved : v ≡ None → false ≡ any_of (misreserved n rs) (reserved_slots v)
   unfolding any_of
   unreserved e = rw e
 
-  module _ (m : v.made ≡ true) where
-    one : any_of (misreserved n rs) (reserved_slots (reservation_of v)) ≡ misreserved n rs v.slot || false
+  module _ (x : Slot) (m : v ≡ Some x) where
+    one : any_of (misreserved n rs) (reserved_slots v) ≡ misreserved n rs x || false
     unfolding any_of
     one = rw m
 
-    pub reserved-beyond : 32 ≤ v.slot.0 → true ≡ any_of (misreserved n rs) (reserved_slots (reservation_of v))
-    reserved-beyond h = sym (one ∙ rw (le-leb 32 v.slot.0 h))
+    pub reserved-beyond : 32 ≤ x.0 → true ≡ any_of (misreserved n rs) (reserved_slots v)
+    reserved-beyond h = sym (one ∙ rw (le-leb 32 x.0 h))
 
-    pub reserved_judged : (b : Bool) (r : Request) → v.slot.0 < 32 → Stands r (get_or rs v.slot.0 None) → b ≡ unable n r
-        → b ≡ any_of (misreserved n rs) (reserved_slots (reservation_of v))
-    reserved_judged b r h s e = e ∙ sym (one ∙ rw (lt-leb 32 v.slot.0 h, some_used, ← s.view) (or-false _))
+    pub reserved_judged : (b : Bool) (r : Request) → x.0 < 32 → Stands r (get_or rs x.0 None) → b ≡ unable n r
+        → b ≡ any_of (misreserved n rs) (reserved_slots v)
+    reserved_judged b r h s e = e ∙ sym (one ∙ rw (lt-leb 32 x.0 h, some_used, ← s.view) (or-false _))
       where
-        some_used : is_some (get_or rs v.slot.0 None) ≡ r.used
+        some_used : is_some (get_or rs x.0 None) ≡ r.used
         some_used = rw (← s.used) (go r.used)
           where
             go : (b : Bool) → is_some (cond b (Some (request_of r)) None) ≡ b

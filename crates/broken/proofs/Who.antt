@@ -16,9 +16,8 @@ use Rattle.splitting.specs.Plain.{Request as RequestRule}
 use Rattle.splitting.specs.Broken.{misfits, broken_plain}
 use Rattle.splitting.proofs.Broken.{any_same}
 use Rattle.tables.specs.Table.{row}
-use Rattle.queue.specs.View.{waiters_of, reservation_of}
+use Rattle.queue.specs.View.{waiters_of}
 use Rattle.queue.proofs.Lists.{waiters-length}
-use Rattle.queue.proofs.Reserved.{is_made}
 use Rattle.words.specs.View.{request_words, slots_of, tasks_of, row_stands}
 use Rattle.words.proofs.Slots.{slot_past}
 use Rattle.words.proofs.Tasks.{length-tasks}
@@ -76,10 +75,10 @@ module _ (h : Head) (ss ts : List ℕ) where
   waiting = broken_slots h.tasks (is_strict h.fairness) (waiters_of h.waiters) ss
 
   abbrev pub reserving : Bool
-  reserving = any_of (misreserved h.tasks (slots_of ss)) (reserved_slots (reservation_of h.reservation))
+  reserving = any_of (misreserved h.tasks (slots_of ss)) (reserved_slots h.reservation)
 
   abbrev pub closing : Bool
-  closing = h.closed && (ltb 0 h.waiters.len || h.reservation.made)
+  closing = h.closed && (ltb 0 h.waiters.len || is_some h.reservation)
 
   pub past_tasks : max_tasks < h.tasks → true ≡ broken_who h ss ts
   unfolding broken_who
@@ -104,7 +103,7 @@ module _ (h : Head) (ss ts : List ℕ) where
     decided =
         (λ i.
         (((le-ltb max_tasks n t i || le-ltb slot_count h.waiters.len l i) || stray_slots ss) || stray_tasks n ts)
-        || (((((tasks i || queue i) || named i) || any_of (misfit (count i)) every_slot) || any_of (misreserved (count i) (slots_of ss)) (reserved_slots (reservation_of h.reservation))) || (h.closed && (some_waits i || is_made h.reservation i))))
+        || (((((tasks i || queue i) || named i) || any_of (misfit (count i)) every_slot) || any_of (misreserved (count i) (slots_of ss)) (reserved_slots h.reservation)) || (h.closed && (some_waits i || is_some h.reservation))))
         ∙ in_turn (stray_slots ss) (stray_tasks n ts) (any_of (is_free_in ss) q || twice q) (any_of (misfit n) every_slot) reserving closing
         ∙ ap (λ (b : Bool). stray_tasks n ts || ((b || (any_of (is_free_in ss) q || twice q)) || (reserving || closing))) (sym (any_either stray (misfit n) every_slot))
       where
@@ -134,12 +133,12 @@ module _ (h : Head) (ss ts : List ℕ) where
       pub slots_wrong : d ≡ true → true ≡ broken_who h ss ts
       slots_wrong y = sym (by_slots ∙ rw y)
 
-      module _ (none-wrong : d ≡ false) (r : Bool) (k : r ≡ any_of (misreserved h.tasks (slots_of ss)) (reserved_slots (reservation_of h.reservation))) where
+      module _ (none-wrong : d ≡ false) (r : Bool) (k : r ≡ any_of (misreserved h.tasks (slots_of ss)) (reserved_slots h.reservation)) where
         by_reservation : broken_who h ss ts ≡ r || closing
         by_reservation = by_slots ∙ rw (none-wrong, ← k)
 
         pub reservation_wrong : r ≡ true → true ≡ broken_who h ss ts
         reservation_wrong y = sym (by_reservation ∙ rw y)
 
-        pub closed_decides : (c : Bool) → r ≡ false → c ≡ (h.closed && (ltb 0 h.waiters.len || h.reservation.made)) → c ≡ broken_who h ss ts
-        closed_decides c y m = m ∙ sym (by_reservation ∙ rw y)
+        pub closed_decides : (v : Bool) → v ≡ is_some h.reservation → (c : Bool) → r ≡ false → c ≡ (h.closed && (ltb 0 h.waiters.len || v)) → c ≡ broken_who h ss ts
+        closed_decides v ev c y m = m ∙ ap (λ (v : Bool). h.closed && (ltb 0 h.waiters.len || v)) ev ∙ sym (by_reservation ∙ rw y)

@@ -5,7 +5,7 @@ ghost use Rattle.std.specs.Prelude.{◌≡◌, Bool, false, not, ◌&&◌, ◌||
 ghost use Rattle.rules.specs.Sizes.{slot_count, max_tasks};
 ghost use Rattle.rules.specs.Broken.{any_of, reserved_slots};
 ghost use Rattle.splitting.specs.Broken.{cannot_wait};
-ghost use Rattle.queue.specs.View.{waiters_of, reservation_of};
+ghost use Rattle.queue.specs.View.{waiters_of};
 ghost use Rattle.records.specs.View.{request_of};
 ghost use Rattle.words.specs.View.{request_words, task_words, slots_of};
 ghost use Rattle.broken.specs.Weights.{words_at, ask_wrong, named_wrong, other_wrong, request_wrong, weights, weight_of, sum_from, Marks, Weighs, heaviest, broken_slots};
@@ -13,8 +13,9 @@ ghost use Rattle.state.specs.View.{words};
 ghost use Rattle.broken.specs.Broken.{other_lengths, stray_tasks, misreserved, broken_who, Judged};
 
 use head::Head;
-use queue::{Reservation, Waiters};
+use queue::Waiters;
 use records::Request;
+use rules::Slot;
 use state::BatchSemaphore;
 
 // ---- a slot's words, from b on: used, asked, least, kind, reserving, task, queued, holding, completed, polled
@@ -171,12 +172,14 @@ fn cannot_reserve(r: Request, tasks: u32) -> bool
     !r.used || r.queued || !r.ask.reserving || r.holding || r.completed || tasks <= r.task
 }
 
-fn reservation_is_broken(reservation: Reservation, slots: &[u32], tasks: u32) -> bool
+fn reservation_is_broken(reservation: Option<Slot>, slots: &[u32], tasks: u32) -> bool
     requires { length slots.now ≡ slot_count * request_words }
-    ensures { result ≡ any_of (misreserved tasks (slots_of slots.now)) (reserved_slots (reservation_of reservation)) }
+    ensures { result ≡ any_of (misreserved tasks (slots_of slots.now)) (reserved_slots reservation) }
 {
-    let x = reservation.slot;
-    reservation.made && (32 <= x.0 || cannot_reserve(words::request_at(slots, x), tasks))
+    match reservation {
+        None => false,
+        Some(x) => 32 <= x.0 || cannot_reserve(words::request_at(slots, x), tasks),
+    }
 }
 
 // Closed with a queue or a reservation.
@@ -196,7 +199,7 @@ fn who_is_broken(h: Head, slots: &[u32], tasks: &[u32]) -> bool
         || tasks_are_broken(tasks, h.tasks)
         || slots_are_broken(h.waiters, slots, h.tasks, h.strictly_fair())
         || reservation_is_broken(h.reservation, slots, h.tasks)
-        || closed_is_broken(h.closed, h.waiters.len, h.reservation.made)
+        || closed_is_broken(h.closed, h.waiters.len, h.reservation.is_some())
 }
 
 // A lent array of another length.

@@ -1,3 +1,2 @@
 pub mod Chosen
-pub mod Deciding
 pub mod Looking

@@ -1,5 +1,6 @@
 -- What a step comes to, and its effect by that: the rules of a step in two parts.
-use Rattle.std.specs.Prelude.{ℕ, ◌-◌, Bool, true, false, not, ◌&&◌, ◌||◌, List, [], ◌∷◌, get_or, set, Option, None, Some, unwrap_or}
+use Rattle.std.specs.Prelude.{ℕ, ◌-◌, Bool, true, false, not, ◌||◌, List, get_or, set, Option, None, Some, unwrap_or}
+use Rattle.std.specs.List.{list_all}
 use Rattle.rules.specs.declared.TaskId.{TaskId}
 use Rattle.rules.specs.declared.Slot.{Slot}
 use Rattle.rules.specs.declared.Ask.{Ask}
@@ -23,9 +24,8 @@ use Rattle.choosing.specs.declared.Choice.{Choice}
 use Rattle.choosing.specs.declared.Choice.TheVariants.{Makes, Polls, Tries, Releases, Drops, Closes, Sleeps, Finishes}
 
 -- every queued request is Bypassable, of the slots alone
-unfoldable pub every_bypassable : List Slot → List (Option Request) → Bool
-every_bypassable [] rs = true
-every_bypassable (x ∷ q) rs = is_bypassable (unwrap_or (get_or rs x.0 None) no_request).ask.kind && every_bypassable q rs
+abbrev pub every_bypassable : List Slot → List (Option Request) → Bool
+every_bypassable q rs = list_all (λ x. is_bypassable (unwrap_or (get_or rs x.0 None) no_request).ask.kind) q
 
 -- who may pass those queued
 abbrev pub passes : Bool → Priority → List Slot → List (Option Request) → Bool

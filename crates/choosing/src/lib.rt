@@ -52,16 +52,7 @@ pub enum Choice {
 pub fn takes_in(p: Polling) -> bool
     ensures { result ≡ takes_in p }
 {
-    match p {
-        Polling::Holds => false,
-        Polling::IsClosed => false,
-        Polling::Stays => false,
-        Polling::QueuesBack => false,
-        Polling::QueuesFront => false,
-        Polling::TakesReserved => true,
-        Polling::Takes => true,
-        Polling::Reserves => false,
-    }
+    matches!(p, Polling::TakesReserved | Polling::Takes)
 }
 
 // The answer of a poll.
@@ -69,14 +60,11 @@ pub fn polled(p: Polling) -> Polled
     ensures { result ≡ polled_of p }
 {
     match p {
-        Polling::Holds => Polled::Granted,
+        Polling::Holds | Polling::TakesReserved | Polling::Takes => Polled::Granted,
         Polling::IsClosed => Polled::Closed,
-        Polling::Stays => Polled::Pending,
-        Polling::QueuesBack => Polled::Pending,
-        Polling::QueuesFront => Polled::Pending,
-        Polling::TakesReserved => Polled::Granted,
-        Polling::Takes => Polled::Granted,
-        Polling::Reserves => Polled::Pending,
+        Polling::Stays | Polling::QueuesBack | Polling::QueuesFront | Polling::Reserves => {
+            Polled::Pending
+        }
     }
 }
 
@@ -85,10 +73,8 @@ pub fn returned(d: Dropping, n: u32) -> u32
     ensures { result ≡ returned_of d n }
 {
     match d {
-        Dropping::Leaving => 0,
-        Dropping::Unreserving => 0,
         Dropping::Returning => n,
-        Dropping::Nothing => 0,
+        Dropping::Leaving | Dropping::Unreserving | Dropping::Nothing => 0,
     }
 }
 
@@ -98,19 +84,7 @@ fn all_bypassable(waiters: Waiters, slots: &[u32]) -> bool
     requires { (waiters.len ≤ slot_count) × (length slots.now ≡ slot_count * request_words) }
     ensures { result ≡ every_bypassable (waiters_of waiters) (slots_of slots.now) }
 {
-    let len = waiters.len as usize;
-    let mut i: usize = 0;
-    while i < len {
-        let x = waiters.slots[i];
-        let r = words::request_at(slots, x);
-        let ask = r.ask;
-        let kind = ask.kind;
-        if !records::is_bypassable(kind) {
-            return false;
-        }
-        i += 1;
-    }
-    true
+    waiters.in_use().iter().all(|&x| words::request_at(slots, x).ask.kind == Priority::Bypassable)
 }
 
 // Whether a request of the kind may pass those queued: the semaphore is unfair, or the kind is Front, or all are Bypassable. The queue
@@ -119,14 +93,7 @@ fn may_pass(h: Head, slots: &[u32], kind: Priority) -> bool
     requires { (h.waiters.len ≤ slot_count) × (length slots.now ≡ slot_count * request_words) }
     ensures { result ≡ passes (is_strict h.fairness) kind (waiters_of h.waiters) (slots_of slots.now) }
 {
-    if !h.strictly_fair() {
-        return true;
-    }
-    if records::is_front(kind) {
-        return true;
-    }
-    let waiters = h.waiters;
-    all_bypassable(waiters, slots)
+    !h.strictly_fair() || kind == Priority::Front || all_bypassable(h.waiters, slots)
 }
 
 // The direct rule.
@@ -137,13 +104,7 @@ pub fn direct(h: Head, slots: &[u32], num_permits: u32, kind: Priority) -> Direc
     if h.closed {
         return Direct::Shut;
     }
-    if h.reservation.made {
-        return Direct::NoPermits;
-    }
-    if h.stock < num_permits {
-        return Direct::NoPermits;
-    }
-    if may_pass(h, slots, kind) {
+    if h.reservation.is_none() && num_permits <= h.stock && may_pass(h, slots, kind) {
         return Direct::Take;
     }
     Direct::NoPermits
@@ -155,8 +116,7 @@ fn joins(kind: Priority) -> Polling
     ensures { result ≡ queues_by kind false }
 {
     match kind {
-        Priority::Back => Polling::QueuesBack,
-        Priority::Bypassable => Polling::QueuesBack,
+        Priority::Back | Priority::Bypassable => Polling::QueuesBack,
         Priority::Front => Polling::QueuesFront,
     }
 }
@@ -172,24 +132,20 @@ fn queues(kind: Priority, queued: bool) -> Polling
 }
 
 // A reserving request: the one that has the reservation waits for its whole ask; another may reserve once its least is there.
+#[tactic(auto, unfolding(splitting::specs::Who::poll_reserving))]
 fn poll_reserving(h: Head, x: Slot, r: Request) -> Polling
     ensures { (slots tasks : List ℕ) → result ≡ poll_reserving x (request_of r) (plain_of h slots tasks) }
 {
-    let reservation = h.reservation;
-    let stock = h.stock;
-    if reservation.is_of(x) {
-        if stock < r.ask.asked {
+    if h.has_reservation(x) {
+        if h.stock < r.ask.asked {
             return Polling::Stays;
         }
         return Polling::TakesReserved;
     }
-    if reservation.made {
+    if h.reservation.is_some() || h.stock < r.ask.least {
         return queues(Priority::Back, r.queued);
     }
-    if stock < r.ask.least {
-        return queues(Priority::Back, r.queued);
-    }
-    if stock < r.ask.asked {
+    if h.stock < r.ask.asked {
         return Polling::Reserves;
     }
     Polling::Takes
@@ -201,40 +157,25 @@ fn by_direct(d: Direct, r: Request) -> Polling
 {
     match d {
         Direct::Shut => Polling::IsClosed,
-        Direct::NoPermits => {
-            let ask = r.ask;
-            let kind = ask.kind;
-            queues(kind, r.queued)
-        }
+        Direct::NoPermits => queues(r.ask.kind, r.queued),
         Direct::Take => Polling::Takes,
     }
 }
 
-// Both of two tests, as one value.
-pub fn both(a: bool, b: bool) -> bool
-    ensures { result ≡ (a && b) }
-{
-    if a {
-        return b;
-    }
-    false
-}
-
 // A plain request: one that is queued on a strictly fair semaphore waits for a scan.
+#[tactic(auto, unfolding(splitting::specs::Who::poll_plain))]
 fn poll_plain(h: Head, slots: &[u32], r: Request) -> Polling
     requires { (h.waiters.len ≤ slot_count) × (length slots.now ≡ slot_count * request_words) }
     ensures { (tasks : List ℕ) → result ≡ poll_plain (request_of r) (plain_of h slots.now tasks) }
 {
-    if both(r.queued, h.strictly_fair()) {
+    if r.queued && h.strictly_fair() {
         return Polling::Stays;
     }
-    let ask = r.ask;
-    let kind = ask.kind;
-    let d = direct(h, slots, ask.asked, kind);
-    by_direct(d, r)
+    by_direct(direct(h, slots, r.ask.asked, r.ask.kind), r)
 }
 
 // What a poll does, of the request that was read at the slot.
+#[tactic(auto, unfolding(splitting::specs::Who::polling))]
 pub fn polling(h: Head, slots: &[u32], x: Slot, r: Request) -> Polling
     requires { (h.waiters.len ≤ slot_count) × (length slots.now ≡ slot_count * request_words) × (Stands r (get_or (slots_of slots.now) x.0 None)) }
     ensures { (tasks : List ℕ) → result ≡ polling_of x (plain_of h slots.now tasks) }
@@ -254,17 +195,17 @@ pub fn polling(h: Head, slots: &[u32], x: Slot, r: Request) -> Polling
 // ---- a drop
 // What a drop does before the slot is free: the request that was read there is queued, has the reservation, or holds permits that nobody
 // was told of.
+#[tactic(auto, unfolding(splitting::specs::Who::dropping))]
 pub fn dropping(h: Head, x: Slot, r: Request) -> Dropping
     ensures { (slots tasks : List ℕ) → Stands r (get_or (slots_of slots) x.0 None) → result ≡ dropping_of x (plain_of h slots tasks) }
 {
     if r.queued {
         return Dropping::Leaving;
     }
-    let reservation = h.reservation;
-    if reservation.is_of(x) {
+    if h.has_reservation(x) {
         return Dropping::Unreserving;
     }
-    if both(r.holding, !r.completed) {
+    if r.holding && !r.completed {
         return Dropping::Returning;
     }
     Dropping::Nothing
@@ -275,8 +216,5 @@ pub fn dropping(h: Head, x: Slot, r: Request) -> Dropping
 pub fn difference(held: u32, wanted: u32) -> u32
     ensures { result ≡ wanted - held }
 {
-    if wanted <= held {
-        return 0;
-    }
-    wanted - held
+    wanted.saturating_sub(held)
 }

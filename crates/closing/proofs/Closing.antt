@@ -2,15 +2,13 @@
 use Rattle.std.specs.Prelude.{Option, None, Some}
 use Prim.Native.Nat.{ℕ}
 use mathlib.Core.Path.{◌≡◌, refl, sym, ap, ◌∙◌}
-use mathlib.Core.Bool.{Bool, true, false, cond, not}
+use mathlib.Core.Bool.{Bool, true, false, cond}
 use mathlib.Core.List.{List, [], ◌∷◌}
-use borrow.Author.Tests.{not-true, not-false}
 use lib.ListN.{length}
 use Rattle.rules.specs.declared.Slot.{Slot}
 use Rattle.splitting.specs.Plain.{Plain, close, owner_finished, task_of, unblock_and_wake, with_reservation}
 use Rattle.splitting.specs.Who.{leave, wake_unfinished, empty_queue, drop_reservation, closing}
-use Rattle.queue.specs.declared.Reservation.{Reservation}
-use Rattle.queue.specs.View.{waiters_of, reservation_of}
+use Rattle.queue.specs.View.{waiters_of}
 use Rattle.words.specs.View.{slots_of, tasks_of, TasksShow}
 use Rattle.head.specs.declared.Head.{Head}
 use Rattle.head.specs.View.{plain_of, Shaped, Shows}
@@ -35,18 +33,14 @@ module _ (h : Head) (ss ts : List ℕ) (s : Shaped h ss ts) where
   abbrev p : Plain
   p = plain_of h ss ts
 
-  pub none_made : not h.reservation.made ≡ true → Shows h ss ts (drop_reservation (reservation_of h.reservation) p)
-  none_made m =
-      let e : reservation_of h.reservation ≡ None = rw (not-true h.reservation.made m) in
-      record { shaped = s; view = ap (λ (o : Option Slot). drop_reservation o p) (sym e) }
+  pub none_made : h.reservation ≡ None → Shows h ss ts (drop_reservation h.reservation p)
+  none_made e = record { shaped = s; view = ap (λ (o : Option Slot). drop_reservation o p) (sym e) }
 
-  pub dropped : not h.reservation.made ≡ false → (after : List ℕ) → length after ≡ length ts
-      → TasksShow h.tasks after ts (owner_changed Wake (request_in (slots_of ss) h.reservation.slot) (tasks_of h.tasks ts))
-      → (v : Reservation) → reservation_of v ≡ None → Shows (reserved_as v h) ss after (drop_reservation (reservation_of h.reservation) p)
-  dropped m after l k v n =
-      let x = h.reservation.slot in
-      let e : reservation_of h.reservation ≡ Some x = rw (not-false h.reservation.made m) in
-      shown (reserved_as v h) ss after _ _ (unreserved_shown h ss ts s after _ k l v n)
+  pub dropped : (x : Slot) → h.reservation ≡ Some x → (after : List ℕ) → length after ≡ length ts
+      → TasksShow h.tasks after ts (owner_changed Wake (request_in (slots_of ss) x) (tasks_of h.tasks ts))
+      → Shows (reserved_as None h) ss after (drop_reservation h.reservation p)
+  dropped x e after l k =
+      shown (reserved_as None h) ss after _ _ (unreserved_shown h ss ts s after _ k l)
       (sym (wakes_one x (with_reservation None p)) ∙ ap (λ (o : Option Slot). drop_reservation o p) (sym e))
 
   -- Nothing, if it was closed before.
@@ -55,7 +49,7 @@ module _ (h : Head) (ss ts : List ℕ) (s : Shaped h ss ts) where
   closed-before e = record { shaped = s; view = rw e }
 
 pub closes : (h : Head) (ss ts : List ℕ) → h.closed ≡ false → (e : Head) (ss' ts' : List ℕ) → Shows e ss' ts' (empty_queue (waiters_of h.waiters) (close (plain_of h ss ts)))
-    → (r : Head) (after : List ℕ) → Shows r ss' after (drop_reservation (reservation_of e.reservation) (plain_of e ss' ts')) → Shows r ss' after (closing (plain_of h ss ts))
+    → (r : Head) (after : List ℕ) → Shows r ss' after (drop_reservation e.reservation (plain_of e ss' ts')) → Shows r ss' after (closing (plain_of h ss ts))
 unfolding closing
 closes h ss ts o e ss' ts' k r after d =
     let q = waiters_of h.waiters in

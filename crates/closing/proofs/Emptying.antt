@@ -2,20 +2,18 @@
 use Rattle.std.specs.Prelude.{Option}
 use Prim.Native.Nat.{ℕ, suc, ◌+◌, ◌≤◌, ◌<◌}
 use native.Mathlib.Numerals.{add-one}
-use native.Mathlib.Omega.{arith}
 use mathlib.Core.Path.{◌≡◌, refl, sym, ap, ◌∙◌}
 use mathlib.Core.Bool.{Bool, true, false, cond, not}
 use mathlib.Core.List.{List, [], ◌∷◌}
 use lib.ListN.{length, get_or, drop, drop_of_length-le}
-use lib.Seq.{drop-cons, get_or-take}
+use lib.Seq.{drop-cons}
 use Rattle.rules.specs.declared.Slot.{Slot}
 use Rattle.rules.specs.Scan.{without}
 use Rattle.rules.proofs.Queues.{same_itself}
 use Rattle.splitting.specs.Plain.{Plain, Task, Request, queued_as, request_at, owner_finished, task_of, alter_request, unblock_and_wake, with_queue, with_tasks, with_slots}
 use Rattle.splitting.specs.Who.{wake_unfinished, empty_queue}
 use Rattle.queue.specs.declared.Waiters.{Waiters}
-use Rattle.queue.specs.View.{waiters_of, slot0, Holds}
-use Rattle.queue.proofs.Lists.{waiters-length}
+use Rattle.queue.specs.View.{waiters_of, Holds}
 use Rattle.words.specs.View.{slots_of, altered, SlotsShow, tasks_of, TasksShow}
 use Rattle.head.specs.declared.Head.{Head}
 use Rattle.head.specs.View.{plain_of, Shaped, Shows}
@@ -42,33 +40,22 @@ empties_front x q s =
     ap (empty_queue q) (rw (same_itself x) (wakes_one x (with_queue q a)))
 
 -- ---- on the words
-pub record Emptying (h : Head) (ss₀ ts₀ ss ts : List ℕ) (i : ℕ) : Type 0 where
+pub record Emptying (h : Head) (ss₀ ts₀ : List ℕ) (q : List Slot) (ss ts : List ℕ) (i : ℕ) : Type 0 where
   pub shaped : Shaped h ss ts
-  pub within : i ≤ h.waiters.len
-  pub places : length h.waiters.slots ≡ 32
-  pub long : length (waiters_of h.waiters) ≡ h.waiters.len
-  pub rest : (let q = drop i (waiters_of h.waiters) in empty_queue q (with_queue q (plain_of h ss ts)) ≡ empty_queue (waiters_of h.waiters) (plain_of h ss₀ ts₀))
+  pub whole : q ≡ waiters_of h.waiters
+  pub rest : (let r = drop i q in empty_queue r (with_queue r (plain_of h ss ts)) ≡ empty_queue q (plain_of h ss₀ ts₀))
 
-module _ (h : Head) (ss₀ ts₀ : List ℕ) where
-  pub emptying : Shaped h ss₀ ts₀ → length h.waiters.slots ≡ 32 → Emptying h ss₀ ts₀ ss₀ ts₀ 0
-  emptying s e = record { shaped = s; within = omega arith; places = e; long = waiters-length h.waiters e s.waiters; rest = refl }
+module _ (h : Head) (ss₀ ts₀ : List ℕ) (q : List Slot) where
+  pub emptying : Shaped h ss₀ ts₀ → q ≡ waiters_of h.waiters → Emptying h ss₀ ts₀ q ss₀ ts₀ 0
+  emptying s e = record { shaped = s; whole = e; rest = ap (λ (r : List Slot). empty_queue q (with_queue r (plain_of h ss₀ ts₀))) e }
 
-  module _ (ss ts : List ℕ) (i : ℕ) (e : Emptying h ss₀ ts₀ ss ts i) where
-    abbrev q : List Slot
-    q = waiters_of h.waiters
+  module _ (ss ts : List ℕ) (i : ℕ) (e : Emptying h ss₀ ts₀ q ss ts i) where
+    module _ (d : Slot) (l : i < length q) (ss' ts' : List ℕ) (ks : length ss' ≡ length ss) (kt : length ts' ≡ length ts)
+        (ms : SlotsShow ss' ss (altered (get_or q i d) (queued_as false) (slots_of ss)))
+        (mt : TasksShow h.tasks ts' ts (owner_changed Wake (request_in (slots_of ss') (get_or q i d)) (tasks_of h.tasks ts))) where
+      abbrev x : Slot
+      x = get_or q i d
 
-    abbrev x : Slot
-    x = get_or h.waiters.slots i slot0
-
-    front : i < h.waiters.len → drop i q ≡ x ∷ drop (suc i) q
-    unfolding waiters_of
-    front l =
-        drop-cons q i slot0 (omega (arith, e.long))
-        ∙ ap (λ (y : Slot). y ∷ drop (suc i) q) (get_or-take h.waiters.len h.waiters.slots i slot0 l)
-
-    module _ (l : i < h.waiters.len) (ss' ts' : List ℕ) (ks : length ss' ≡ length ss) (kt : length ts' ≡ length ts)
-        (ms : SlotsShow ss' ss (altered x (queued_as false) (slots_of ss)))
-        (mt : TasksShow h.tasks ts' ts (owner_changed Wake (request_in (slots_of ss') x) (tasks_of h.tasks ts))) where
       now : (r : List Slot) → with_queue r (with_tasks (owner_changed Wake (request_in (altered x (queued_as false) (slots_of ss)) x) (tasks_of h.tasks ts)) (alter_request x (queued_as false) (plain_of h ss ts))) ≡ with_queue r (plain_of h ss' ts')
       now r =
           ap (λ (us : List (Option Request)). with_queue r (with_tasks (owner_changed Wake (request_in us x) (tasks_of h.tasks ts)) (with_slots us (plain_of h ss ts)))) (sym ms.view)
@@ -76,26 +63,28 @@ module _ (h : Head) (ss₀ ts₀ : List ℕ) where
 
       turned : empty_queue (drop i q) (with_queue (drop i q) (plain_of h ss ts)) ≡ empty_queue (drop (suc i) q) (with_queue (drop (suc i) q) (plain_of h ss' ts'))
       turned =
-          ap (λ (r : List Slot). empty_queue r (with_queue r (plain_of h ss ts))) (front l)
+          ap (λ (r : List Slot). empty_queue r (with_queue r (plain_of h ss ts))) (drop-cons q i d l)
           ∙ empties_front x (drop (suc i) q) (plain_of h ss ts)
           ∙ ap (empty_queue (drop (suc i) q)) (now (drop (suc i) q))
 
-      pub emptying_on : Emptying h ss₀ ts₀ ss' ts' (i + 1)
+      pub emptying_on : Emptying h ss₀ ts₀ q ss' ts' (i + 1)
       emptying_on =
           record {
             shaped = both_shaped h ss ts ss' ts' e.shaped _ _ ms ks mt kt;
-            within = omega arith;
-            places = e.places;
-            long = e.long;
+            whole = e.whole;
             rest = rw add-one (sym turned ∙ e.rest);
           }
 
-    pub emptied : h.waiters.len ≤ i → (w : Waiters) → Holds w []
-        → Shows (head_with h.stock w h.reservation h) ss ts (empty_queue q (plain_of h ss₀ ts₀))
+    pub emptied : length q ≤ i → (w : Waiters) → Holds w []
+        → Shows (head_with h.stock w h.reservation h) ss ts (empty_queue (waiters_of h.waiters) (plain_of h ss₀ ts₀))
     unfolding empty_queue
     emptied l w k =
-        let o : drop i q ≡ [] = drop_of_length-le q {i = i} (omega (arith, e.long)) in
+        let o : drop i q ≡ [] = drop_of_length-le q {i = i} l in
         record {
           shaped = head-shaped h ss ts e.shaped h.stock w h.reservation k.fits;
-          view = ap (λ (r : List Slot). with_queue r (plain_of h ss ts)) k.view ∙ sym (ap (λ (r : List Slot). empty_queue r (with_queue r (plain_of h ss ts))) o) ∙ e.rest;
+          view =
+              ap (λ (r : List Slot). with_queue r (plain_of h ss ts)) k.view
+              ∙ sym (ap (λ (r : List Slot). empty_queue r (with_queue r (plain_of h ss ts))) o)
+              ∙ e.rest
+              ∙ ap (λ (r : List Slot). empty_queue r (plain_of h ss₀ ts₀)) e.whole;
         }

@@ -2,11 +2,11 @@
 #![tactic(auto)]
 
 ghost use Rattle.splitting.specs.Who.{empty_queue, drop_reservation, closing};
-ghost use Rattle.queue.specs.View.{waiters_of, reservation_of};
+ghost use Rattle.queue.specs.View.{waiters_of};
 ghost use Rattle.head.specs.View.{plain_of, Shaped, Shows};
 
 use head::Head;
-use queue::{Reservation, Waiters};
+use queue::Waiters;
 use records::Marking;
 use rousing::Change;
 
@@ -15,34 +15,26 @@ fn empty_queue(h: Head, slots: &mut [u32], tasks: &mut [u32]) -> Head
     requires { Shaped h slots.old tasks.old }
     ensures { Shows result slots.new tasks.new (empty_queue (waiters_of h.waiters) (plain_of h slots.old tasks.old)) }
 {
-    let waiters = h.waiters;
-    let len = waiters.len as usize;
-    let mut i: usize = 0;
-    while i < len {
-        let x = waiters.slots[i];
+    for &x in h.waiters.in_use() {
         words::mark(slots, x, Marking::Leaves);
         rousing::change_owner(slots, tasks, h.tasks, x, Change::Wake);
-        i += 1;
     }
-    let nobody = Waiters::new();
     let mut out = h;
-    out.waiters = nobody;
+    out.waiters = Waiters::new();
     out
 }
 
 // The reservation is cleared, and its task is woken if it is not finished.
 fn drop_reservation(h: Head, slots: &[u32], tasks: &mut [u32]) -> Head
     requires { Shaped h slots.now tasks.old }
-    ensures { Shows result slots.now tasks.new (drop_reservation (reservation_of h.reservation) (plain_of h slots.now tasks.old)) }
+    ensures { Shows result slots.now tasks.new (drop_reservation h.reservation (plain_of h slots.now tasks.old)) }
 {
-    if !h.reservation.made {
+    let Some(x) = h.reservation else {
         return h;
-    }
-    let x = h.reservation.slot;
+    };
     rousing::change_owner(slots, tasks, h.tasks, x, Change::Wake);
-    let unreserved = Reservation::none();
     let mut out = h;
-    out.reservation = unreserved;
+    out.reservation = None;
     out
 }
 

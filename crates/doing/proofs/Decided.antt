@@ -3,7 +3,7 @@ use Rattle.std.specs.Prelude.{None, Some}
 use Prim.Native.Nat.{ℕ, ◌≤◌, ◌<◌}
 use native.Mathlib.Omega.{arith}
 use mathlib.Core.Path.{◌≡◌, refl, sym, ap, subst, ◌∙◌}
-use mathlib.Core.Bool.{true, false, cond, false≢true}
+use mathlib.Core.Bool.{true, false, cond}
 use mathlib.Core.List.{List, [], ◌∷◌}
 use lib.ListN.{length}
 use Rattle.rules.specs.declared.TaskId.{TaskId}
@@ -22,7 +22,7 @@ use Rattle.words.specs.View.{grants_of}
 use Rattle.head.specs.declared.Head.{Head}
 use Rattle.head.specs.declared.Answered.{Answered}
 use Rattle.head.specs.View.{plain_of, Shaped, Shows, Answers}
-use Rattle.choosing.specs.Choice.{poll_by, poll_moves}
+use Rattle.choosing.specs.Choice.{poll_by}
 use Rattle.doing.specs.Effects.{SlotsAnswer, AnyGrants, poll_takes, queues_in, MayPoll}
 
 -- ---- a poll
@@ -40,9 +40,6 @@ module _ (q : Polling) (n : ℕ) (t : TaskId) (x : Slot) (h : Head) (ss ts : Lis
 
     by : (k : Polling) → q ≡ k → Does k → Does q
     by k e d = subst Does (sym e) d
-
-    pub polls_resting : poll_moves q ≡ true → (k : Polling) → q ≡ k → poll_moves k ≡ false → Does q
-    polls_resting f k e g = absurd (false≢true (sym g ∙ sym (ap poll_moves e) ∙ f))
 
   module _ (r : Answered) (after gs : List ℕ) where
     pub polls_back : q ≡ QueuesBack → SlotsAnswer (λ s. quiet pending (alter_request x (polled_pending t) (cond false (queue_front x s) (queue_back x s)))) r after h ss → Does r after ts gs q

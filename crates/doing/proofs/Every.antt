@@ -1,7 +1,7 @@
 -- In an arm of a match, the choice is the arm's: what it asks, and what it does.
 use Prim.Native.Nat.{ℕ, ◌≤◌}
 use mathlib.Core.Path.{◌≡◌, refl, sym, ap, subst, ◌∙◌}
-use mathlib.Core.Bool.{true, false, false≢true}
+use mathlib.Core.Bool.{true, false≢true}
 use mathlib.Core.List.{List}
 use Rattle.rules.specs.declared.TaskId.{TaskId}
 use Rattle.rules.specs.declared.Slot.{Slot}
@@ -74,7 +74,3 @@ module _ (c : Choice) (t : TaskId) (h : Head) (ss ts : List ℕ) (r : Answered) 
   does_try m n d e a =
       by (Tries n d) e
       (subst (λ (d : Direct). Answers r after awake gs (try_by d t n (plain_of h ss ts))) (sym (takes_so d (sym (ap moves_in e) ∙ m))) a)
-
-  -- what rests is not done here
-  pub never : moves_in c ≡ true → (k : Choice) → c ≡ k → moves_in k ≡ false → Answers r after awake gs (effect_by t c (plain_of h ss ts))
-  never m k e f = absurd (false≢true (sym f ∙ sym (ap moves_in e) ∙ m))

@@ -16,8 +16,6 @@ use Rattle.splitting.specs.Who.{taking, queue_back, queue_front, leave, wake_unf
 use Rattle.replies.specs.declared.Reply.{Reply}
 use Rattle.replies.specs.declared.Reply.TheVariants.{Granted}
 use Rattle.replies.specs.Answers.{answer_of}
-use Rattle.queue.specs.declared.Reservation.{Reservation}
-use Rattle.queue.specs.View.{reservation_of}
 use Rattle.records.specs.declared.Marking.{Marking}
 use Rattle.records.specs.declared.Marking.TheVariants.{PollsGranted}
 use Rattle.records.specs.View.{marking}
@@ -55,7 +53,7 @@ takes_so h slots after before grants t x n k l g tasks s =
     }
 
 -- another stock or reservation, and the same queue
-pub other_shaped : (h : Head) (ss ts : List ℕ) (n : ℕ) (v : Reservation) → Shaped h ss ts → Shaped (head_with n h.waiters v h) ss ts
+pub other_shaped : (h : Head) (ss ts : List ℕ) (n : ℕ) (v : Option Slot) → Shaped h ss ts → Shaped (head_with n h.waiters v h) ss ts
 other_shaped h ss ts n v s = head-shaped h ss ts s n h.waiters v s.waiters
 
 -- ---- taking, and reserving
@@ -64,12 +62,10 @@ module _ (t : TaskId) (x : Slot) (n : ℕ) where
   pub then_granted : (b : Head) (ss ts after gs : List ℕ) (a : Plain) (r : Answered) → Shows b ss ts a → GrantsPoll r after gs t x n b ss → Answers r after ts gs (poll_takes t x n a)
   then_granted b ss ts after gs a r k g = subst (λ (p : Plain). Answers r after ts gs (poll_takes t x n p)) k.view (g ts k.shaped)
 
-  pub reserved_taken : (h b : Head) (v : Reservation) (ss ts awake after gs : List ℕ) (r : Answered) → reservation_of v ≡ None
-      → Shows b ss awake (wake_unfair (plain_of (head_with (h.stock - n) h.waiters v h) ss ts)) → GrantsPoll r after gs t x n b ss
+  pub reserved_taken : (h b : Head) (ss ts awake after gs : List ℕ) (r : Answered)
+      → Shows b ss awake (wake_unfair (plain_of (head_with (h.stock - n) h.waiters None h) ss ts)) → GrantsPoll r after gs t x n b ss
       → Answers r after awake gs (poll_takes t x n (plain_of h ss ts ▷ with_reservation None ▷ taking n ▷ wake_unfair))
-  reserved_taken h b v ss ts awake after gs r e k g =
-      then_granted b ss awake after gs _ r
-      (record { shaped = k.shaped; view = k.view ∙ ap (λ (o : Option Slot). plain_of h ss ts ▷ with_reservation o ▷ taking n ▷ wake_unfair) e }) g
+  reserved_taken h b ss ts awake after gs r k g = then_granted b ss awake after gs _ r k g
 
   pub taken_left : (h l : Head) (ss ts left awake after gs : List ℕ) (r : Answered) → Shaped h ss ts
       → AnyTasks (leave x) l left (head_with (h.stock - n) h.waiters h.reservation h) ss
@@ -83,14 +79,10 @@ module _ (t : TaskId) (x : Slot) (n : ℕ) where
 pub left_there : (h l : Head) (x : Slot) (ss ts left : List ℕ) → Shaped h ss ts → AnyTasks (leave x) l left h ss → Shaped l left ts
 left_there h l x ss ts left s k = (k ts s).shaped
 
-pub reserves_so : (t : TaskId) (x : Slot) (h l : Head) (v : Reservation) (ss ts left awake after : List ℕ) (r : Answered) → Shaped h ss ts → AnyTasks (leave x) l left h ss
-    → reservation_of v ≡ Some x → Shows (reserved_as v l) left awake (reblock t (plain_of (reserved_as v l) left ts))
-    → SlotsAnswer (λ s. quiet pending (alter_request x (polled_pending t) s)) r after (reserved_as v l) left
+pub reserves_so : (t : TaskId) (x : Slot) (h l : Head) (ss ts left awake after : List ℕ) (r : Answered) → Shaped h ss ts → AnyTasks (leave x) l left h ss
+    → Shows (reserved_as (Some x) l) left awake (reblock t (plain_of (reserved_as (Some x) l) left ts))
+    → SlotsAnswer (λ s. quiet pending (alter_request x (polled_pending t) s)) r after (reserved_as (Some x) l) left
     → AnyGrants r after awake (quiet pending (alter_request x (polled_pending t) (plain_of h ss ts ▷ leave x ▷ with_reservation (Some x) ▷ reblock t)))
-reserves_so t x h l v ss ts left awake after r s k e w a gs =
-    let state =
-    w.view
-    ∙ ap (λ (o : Option Slot). reblock t (with_reservation o (plain_of l left ts))) e
-    ∙ ap (λ (p : Plain). reblock t (with_reservation (Some x) p)) (k ts s).view
-    in
+reserves_so t x h l ss ts left awake after r s k w a gs =
+    let state = w.view ∙ ap (λ (p : Plain). reblock t (with_reservation (Some x) p)) (k ts s).view in
     subst (λ (p : Plain). Answers r after awake gs (quiet pending (alter_request x (polled_pending t) p))) state (a awake gs w.shaped)

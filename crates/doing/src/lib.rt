@@ -5,6 +5,7 @@
 ghost use Rattle.std.specs.Prelude.{◌≡◌, true, false, cond, ◌*◌, ◌≤◌, ◌<◌, length, None, Some};
 ghost use Rattle.rules.specs.declared.Direct.TheVariants.{Take};
 ghost use Rattle.rules.specs.Sizes.{slot_count};
+ghost use Rattle.rules.specs.Request.{is_front};
 ghost use Rattle.rules.specs.Broken.{twice};
 ghost use Rattle.rules.specs.Steps.Answer.{done, pending};
 ghost use Rattle.splitting.specs.Plain.{with_reservation, alter_request, polled_pending, ◌▷◌};
@@ -20,20 +21,9 @@ ghost use Rattle.choosing.specs.Choice.{poll_by, drop_by, effect_by, poll_moves,
 
 use choosing::Choice;
 use head::{Answered, Granting, Head};
-use queue::Reservation;
 use records::Marking;
 use replies::Reply;
-use rules::{Dropping, Polling, Slot, TaskId};
-
-// An arm that is never taken: what rests is not done here.
-fn unmoved(h: Head) -> Answered {
-    let reply = Reply::Done;
-    Answered {
-        reply,
-        count: 0,
-        head: h,
-    }
-}
+use rules::{Dropping, Polling, Priority, Slot, TaskId};
 
 // ---- polls
 
@@ -51,14 +41,12 @@ fn polled(h: Head, slots: &mut [u32], x: Slot, m: Marking, reply: Reply) -> Answ
 }
 
 // The request joins the queue, in front of it or at its back, and its task waits.
-fn wait_in_queue(h: Head, slots: &mut [u32], me: TaskId, x: Slot, front: bool) -> Answered
+fn wait_in_queue(h: Head, slots: &mut [u32], me: TaskId, x: Slot, priority: Priority) -> Answered
     requires { (length slots.old ≡ slot_count * request_words) × (length (waiters_of h.waiters) < slot_count) }
-    ensures { SlotsAnswer (λ s. quiet_of pending (alter_request x (polled_pending me) (cond front (queue_front x s) (queue_back x s)))) result slots.new h slots.old }
+    ensures { SlotsAnswer (λ s. quiet_of pending (alter_request x (polled_pending me) (cond (is_front priority) (queue_front x s) (queue_back x s)))) result slots.new h slots.old }
 {
-    let joined = scanning::enqueue_waiter(h, slots, x, front);
-    let m = Marking::PollsPending(me);
-    let reply = Reply::Pending;
-    polled(joined, slots, x, m, reply)
+    let joined = scanning::enqueue_waiter(h, slots, x, priority);
+    polled(joined, slots, x, Marking::PollsPending(me), Reply::Pending)
 }
 
 // The request holds what it asked for: the one grant of its poll.
@@ -73,12 +61,10 @@ fn poll_granted(
     requires { (length slots.old ≡ slot_count * request_words) × (length grants.old ≡ slot_count * 3) }
     ensures { GrantsPoll result slots.new grants.new me x asked h slots.old }
 {
-    let m = Marking::PollsGranted;
-    words::mark(slots, x, m);
+    words::mark(slots, x, Marking::PollsGranted);
     words::push_grant(grants, 0, x, asked, me.0 as u32);
-    let reply = Reply::Granted;
     Answered {
-        reply,
+        reply: Reply::Granted,
         count: 1,
         head: h,
     }
@@ -97,10 +83,9 @@ fn take_reserved(
     requires { (Shaped h slots.old tasks.old) × (length grants.old ≡ slot_count * 3) × (asked ≤ h.stock) }
     ensures { Answers result slots.new tasks.new grants.new (poll_takes me x asked (plain_of h slots.old tasks.old ▷ with_reservation None ▷ taking asked ▷ wake_unfair)) }
 {
-    let nobody = Reservation::none();
     let mut taken = h;
-    taken.stock = taken.stock - asked;
-    taken.reservation = nobody;
+    taken.stock -= asked;
+    taken.reservation = None;
     let woken = rousing::wake_unfair_waiters(taken, slots, tasks);
     poll_granted(woken, slots, grants, me, x, asked)
 }
@@ -119,7 +104,7 @@ fn take_and_leave(
     ensures { Answers result slots.new tasks.new grants.new (poll_takes me x asked (plain_of h slots.old tasks.old ▷ taking asked ▷ leave x ▷ reblock me)) }
 {
     let mut taken = h;
-    taken.stock = taken.stock - asked;
+    taken.stock -= asked;
     let left = scanning::leave(taken, slots, x);
     rousing::reblock_if_unfair(left, slots, tasks, me);
     poll_granted(left, slots, grants, me, x, asked)
@@ -131,12 +116,9 @@ fn reserve(h: Head, slots: &mut [u32], tasks: &mut [u32], me: TaskId, x: Slot) -
     ensures { AnyGrants result slots.new tasks.new (quiet_of pending (alter_request x (polled_pending me) (plain_of h slots.old tasks.old ▷ leave x ▷ with_reservation (Some x) ▷ reblock me))) }
 {
     let mut mine = scanning::leave(h, slots, x);
-    let reservation = Reservation::of(x);
-    mine.reservation = reservation;
+    mine.reservation = Some(x);
     rousing::reblock_if_unfair(mine, slots, tasks, me);
-    let m = Marking::PollsPending(me);
-    let reply = Reply::Pending;
-    polled(mine, slots, x, m, reply)
+    polled(mine, slots, x, Marking::PollsPending(me), Reply::Pending)
 }
 
 // A poll that moves something, as it was decided.
@@ -154,11 +136,9 @@ fn poll_by(
     ensures { Answers result slots.new tasks.new grants.new (poll_by p me x (plain_of h slots.old tasks.old)) }
 {
     match p {
-        Polling::Holds => unmoved(h),
-        Polling::IsClosed => unmoved(h),
-        Polling::Stays => unmoved(h),
-        Polling::QueuesBack => wait_in_queue(h, slots, me, x, false),
-        Polling::QueuesFront => wait_in_queue(h, slots, me, x, true),
+        Polling::Holds | Polling::IsClosed | Polling::Stays => unreachable!(),
+        Polling::QueuesBack => wait_in_queue(h, slots, me, x, Priority::Back),
+        Polling::QueuesFront => wait_in_queue(h, slots, me, x, Priority::Front),
         Polling::TakesReserved => take_reserved(h, slots, tasks, grants, me, x, asked),
         Polling::Takes => take_and_leave(h, slots, tasks, grants, me, x, asked),
         Polling::Reserves => reserve(h, slots, tasks, me, x),
@@ -180,12 +160,11 @@ fn take_by_try(
     ensures { Answers result slots.now tasks.new grants.new (try_by Take me num_permits (plain_of h slots.now tasks.old)) }
 {
     let mut taken = h;
-    taken.stock = taken.stock - num_permits;
+    taken.stock -= num_permits;
     rousing::reblock_if_unfair(taken, slots, tasks, me);
     words::grant_try(grants, num_permits, me.0 as u32);
-    let reply = Reply::Granted;
     Answered {
-        reply,
+        reply: Reply::Granted,
         count: 1,
         head: taken,
     }
@@ -223,7 +202,7 @@ fn release(
         return Granting { head: h, count: 0 };
     }
     let mut more = h;
-    more.stock = more.stock + num_permits;
+    more.stock += num_permits;
     scan_or_wake(more, slots, tasks, grants)
 }
 
@@ -284,12 +263,10 @@ fn drop_request(
 fn done_with(g: Granting) -> Answered
     ensures { result ≡ record { reply = Done; count = g.count; head = g.head } }
 {
-    let head = g.head;
-    let reply = Reply::Done;
     Answered {
-        reply,
+        reply: Reply::Done,
         count: g.count,
-        head,
+        head: g.head,
     }
 }
 
@@ -298,12 +275,10 @@ fn close(h: Head, slots: &mut [u32], tasks: &mut [u32]) -> Answered
     requires { Shaped h slots.old tasks.old }
     ensures { AnyGrants result slots.new tasks.new (quiet_of done (closing (plain_of h slots.old tasks.old))) }
 {
-    let closed = closing::close(h, slots, tasks);
-    let reply = Reply::Done;
     Answered {
-        reply,
+        reply: Reply::Done,
         count: 0,
-        head: closed,
+        head: closing::close(h, slots, tasks),
     }
 }
 
@@ -322,13 +297,13 @@ pub fn effect(
     ensures { Answers result slots.new tasks.new grants.new (effect_by me c (plain_of h slots.old tasks.old)) }
 {
     match c {
-        Choice::Makes { slot, ask } => unmoved(h),
+        Choice::Makes { .. } | Choice::Sleeps | Choice::Finishes => unreachable!(),
         Choice::Polls {
             slot,
             asked,
             polling,
         } => poll_by(h, slots, tasks, grants, me, slot, asked, polling),
-        Choice::Tries { count, direct } => take_by_try(h, slots, tasks, grants, me, count),
+        Choice::Tries { count, .. } => take_by_try(h, slots, tasks, grants, me, count),
         Choice::Releases(num_permits) => {
             done_with(release(h, slots, tasks, grants, num_permits))
         }
@@ -338,7 +313,5 @@ pub fn effect(
             dropping,
         } => done_with(drop_request(h, slots, tasks, grants, slot, back, dropping)),
         Choice::Closes => close(h, slots, tasks),
-        Choice::Sleeps => unmoved(h),
-        Choice::Finishes => unmoved(h),
     }
 }

@@ -8,7 +8,7 @@ use Rattle.rules.specs.Steps.{Answer, Outcome}
 use Rattle.rules.specs.Steps.Answer.{done, refused}
 use Rattle.splitting.specs.Plain.{Plain, no_task}
 use Rattle.tables.specs.Table.{row}
-use Rattle.queue.specs.View.{Holds, reservation_of}
+use Rattle.queue.specs.View.{Holds}
 use Rattle.words.specs.View.{request_words, task_words}
 use Rattle.head.specs.declared.Head.{Head}
 use Rattle.batches.specs.declared.Batches.{Batches}
@@ -45,7 +45,7 @@ pub record Idle (h : Head) (f : Fairness) (b : Bool) (k n : ℕ) : Type 0 where
   pub stock : h.stock ≡ k
   pub tasks : h.tasks ≡ n
   pub waiters : Holds h.waiters []
-  pub reservation : reservation_of h.reservation ≡ None
+  pub reservation : h.reservation ≡ None
 
 -- as many words of clocks as before, of which the first n clocks are these
 pub record Heard (after before : List ℕ) (n : ℕ) (cs : List Clock) : Type 0 where

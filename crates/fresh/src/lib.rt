@@ -17,7 +17,7 @@ ghost use Rattle.fresh.specs.Starting.{bad_sizes, Cleared, idle, Idle, Heard, Be
 use batches::Batches;
 use clock::VectorClock;
 use head::Head;
-use queue::{Reservation, Waiters};
+use queue::Waiters;
 use rules::{Fairness, TaskId};
 use state::BatchSemaphore;
 
@@ -65,13 +65,12 @@ fn idle_head(fairness: Fairness, closed: bool, stock: u32, n: u32) -> Head
     ensures { Idle result fairness closed stock n }
 {
     let waiters = Waiters::new();
-    let reservation = Reservation::none();
     Head {
         fairness,
         closed,
         stock,
         waiters,
-        reservation,
+        reservation: None,
         tasks: n,
     }
 }

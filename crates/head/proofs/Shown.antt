@@ -8,8 +8,6 @@ use Rattle.rules.specs.declared.Slot.{Slot}
 use Rattle.rules.specs.Sizes.{slot_count}
 use Rattle.splitting.specs.Plain.{Plain, Task, Request, with_slots, with_tasks, with_reservation}
 use Rattle.queue.specs.declared.Waiters.{Waiters}
-use Rattle.queue.specs.declared.Reservation.{Reservation}
-use Rattle.queue.specs.View.{reservation_of}
 use Rattle.words.specs.View.{SlotsShow, TasksShow}
 use Rattle.head.specs.declared.Head.{Head}
 use Rattle.head.specs.View.{plain_of, Shaped, Shows}
@@ -19,14 +17,14 @@ pub shown : (h : Head) (ss ts : List ℕ) (a b : Plain) → Shows h ss ts a → 
 shown h ss ts a b s e = record { shaped = s.shaped; view = s.view ∙ e }
 
 -- another stock, queue and reservation
-abbrev pub head_with : ℕ → Waiters → Reservation → Head → Head
+abbrev pub head_with : ℕ → Waiters → Option Slot → Head → Head
 head_with n w v h = record { fairness = h.fairness; closed = h.closed; stock = n; waiters = w; reservation = v; tasks = h.tasks }
 
-abbrev pub reserved_as : Reservation → Head → Head
+abbrev pub reserved_as : Option Slot → Head → Head
 reserved_as v h = head_with h.stock h.waiters v h
 
 module _ (h : Head) (ss ts : List ℕ) (s : Shaped h ss ts) where
-  pub head-shaped : (n : ℕ) (w : Waiters) (v : Reservation) → w.len ≤ slot_count → Shaped (head_with n w v h) ss ts
+  pub head-shaped : (n : ℕ) (w : Waiters) (v : Option Slot) → w.len ≤ slot_count → Shaped (head_with n w v h) ss ts
   head-shaped n w v l =
       record {
         tasks = s.tasks;
@@ -74,10 +72,7 @@ both_shaped h ss ts ss' ts' s l us k n m o = (tasks_shown h ss' ts (slots_shown 
 
 -- other tasks, and no reservation
 pub unreserved_shown : (h : Head) (ss ts : List ℕ) → Shaped h ss ts → (after : List ℕ) (us : List Task) → TasksShow h.tasks after ts us → length after ≡ length ts
-    → (v : Reservation) → reservation_of v ≡ None → Shows (reserved_as v h) ss after (with_reservation None (with_tasks us (plain_of h ss ts)))
-unreserved_shown h ss ts s after us k n v e =
+    → Shows (reserved_as None h) ss after (with_reservation None (with_tasks us (plain_of h ss ts)))
+unreserved_shown h ss ts s after us k n =
     let t = tasks_shown h ss ts s after us k n in
-    record {
-      shaped = head-shaped h ss after t.shaped h.stock h.waiters v s.waiters;
-      view = ap (λ (o : Option Slot). with_reservation o (plain_of h ss after)) e ∙ ap (with_reservation None) t.view;
-    }
+    record { shaped = head-shaped h ss after t.shaped h.stock h.waiters None s.waiters; view = ap (with_reservation None) t.view }

@@ -4,7 +4,7 @@ use Rattle.rules.specs.Sizes.{max_tasks, slot_count}
 use Rattle.splitting.specs.Plain.{Plain}
 use Rattle.splitting.specs.Who.{Granting as GrantingRule, Outcome}
 use Rattle.replies.specs.Answers.{answer_of}
-use Rattle.queue.specs.View.{waiters_of, reservation_of}
+use Rattle.queue.specs.View.{waiters_of}
 use Rattle.words.specs.View.{request_words, task_words, slots_of, tasks_of, grants_of, SlotsStand, TasksStand}
 use Rattle.head.specs.declared.Head.{Head}
 use Rattle.head.specs.declared.Granting.{Granting}
@@ -17,7 +17,7 @@ plain_of h slots tasks =
       closed = h.closed;
       stock = h.stock;
       queue = waiters_of h.waiters;
-      reservation = reservation_of h.reservation;
+      reservation = h.reservation;
       tasks = tasks_of h.tasks tasks;
       slots = slots_of slots;
     }

@@ -1,13 +1,13 @@
 // What is by value of who gets permits, after the source's `BatchSemaphoreState`: slots and tasks stand in words that the caller lends.
 #![tactic(auto)]
 
-ghost use Rattle.std.specs.Prelude.{◌≡◌, cond, length};
-ghost use Rattle.rules.specs.State.{is_strict};
+ghost use Rattle.std.specs.Prelude.{◌≡◌, cond, length, is_some};
+ghost use Rattle.rules.specs.State.{is_strict, is_the};
 ghost use Rattle.queue.specs.View.{waiters_of};
 
-use queue::{Reservation, Waiters};
+use queue::Waiters;
 use replies::Reply;
-use rules::Fairness;
+use rules::{Fairness, Slot};
 
 #[derive(Clone, Copy)]
 pub struct Head {
@@ -15,7 +15,7 @@ pub struct Head {
     pub closed: bool,
     pub stock: u32,
     pub waiters: Waiters,
-    pub reservation: Reservation,
+    pub reservation: Option<Slot>,
     pub tasks: u32,
 }
 
@@ -34,39 +34,35 @@ pub struct Answered {
     pub head: Head,
 }
 
-fn is_strict(f: Fairness) -> bool
-    ensures { result ≡ is_strict f }
-{
-    match f {
-        Fairness::StrictlyFair => true,
-        Fairness::Unfair => false,
-    }
-}
-
 impl Head {
     // Whether it is strictly fair.
     pub fn strictly_fair(self) -> bool
         ensures { result ≡ is_strict self.fairness }
     {
-        let f = self.fairness;
-        is_strict(f)
+        self.fairness == Fairness::StrictlyFair
     }
 
     // The permits that a request can take now: none while one has the reservation.
     pub fn available_permits(self) -> u32
-        ensures { result ≡ cond self.reservation.made 0 self.stock }
+        ensures { result ≡ cond (is_some self.reservation) 0 self.stock }
     {
-        if self.reservation.made {
+        if self.reservation.is_some() {
             return 0;
         }
         self.stock
+    }
+
+    // Whether the slot has the reservation.
+    pub fn has_reservation(self, x: Slot) -> bool
+        ensures { result ≡ is_the x self.reservation }
+    {
+        self.reservation == Some(x)
     }
 
     // How many requests are queued.
     pub fn queue_length(self) -> usize
         ensures { result ≡ length (waiters_of self.waiters) }
     {
-        let waiters = self.waiters;
-        waiters.length()
+        self.waiters.length()
     }
 }

@@ -25,7 +25,6 @@ use Rattle.records.specs.View.{Stands}
 use Rattle.words.specs.View.{slots_of}
 use Rattle.head.specs.declared.Head.{Head}
 use Rattle.head.specs.View.{plain_of}
-use Rattle.queue.proofs.Reserved.{is_made}
 use Rattle.planning.specs.Plans.{Says, actor_grounds}
 use Rattle.planning.proofs.Composing.{first-after}
 use Rattle.planning.proofs.Grounds.{used-read}
@@ -51,13 +50,11 @@ told_found r o q b t s u e = told-on 3 _ b q t (used-read r o s false (rw u)) e
 -- ---- the point, of the request that is read at the slot
 module _ (h : Head) (x : Slot) (r : Request) (ss ts : List ℕ) (e : Stands r (get_or (slots_of ss) x.0 None)) where
   -- a poll
-  pub poll_read : (n : ℕ) → n ≡ cond h.reservation.made 0 h.stock
+  pub poll_read : (n : ℕ) → n ≡ cond (is_some h.reservation) 0 h.stock
       → (not r.polled && (is_strict h.fairness || r.holding || h.closed || leb r.ask.least n)) ≡ point (BeforePoll x) (plain_of h ss ts)
   unfolding point
   poll_read n en =
-      rw en
-      (ap (λ (k : Bool). not r.polled && (is_strict h.fairness || r.holding || h.closed || leb r.ask.least (cond k 0 h.stock))) (sym (is_made h.reservation))
-      ∙ ap (λ (q : RequestRule). not q.polled && (is_strict h.fairness || q.holding || h.closed || leb q.ask.least (available (plain_of h ss ts)))) e.view)
+      rw en (ap (λ (q : RequestRule). not q.polled && (is_strict h.fairness || q.holding || h.closed || leb q.ask.least (available (plain_of h ss ts)))) e.view)
 
   -- a drop's second question
   pub drop_again_read : (w : Bool) → w ≡ waits x (plain_of h ss ts) → (not w && r.holding && not r.completed) ≡ point (BeforeDropAgain x) (plain_of h ss ts)

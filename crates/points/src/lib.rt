@@ -33,7 +33,7 @@ fn before_poll(h: Head, r: Request) -> bool
 fn waits(h: Head, x: Slot, r: Request) -> bool
     ensures { (slots tasks : List ℕ) → Stands r (get_or (slots_of slots) x.0 None) → result ≡ waits_of x (plain_of h slots tasks) }
 {
-    r.queued || h.reservation.is_of(x)
+    r.queued || h.has_reservation(x)
 }
 
 // A drop's second question: neither of these, but holding and not completed.

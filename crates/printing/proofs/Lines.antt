@@ -70,14 +70,10 @@ unfolding outcome_text
 outcome-line o c h = rw (h.available, h.stock, h.closed, h.queued)
 
 -- What a head shows: no slot and no task.
-made-reserved : (b : Bool) (x : Slot) (n : ℕ) → cond b 0 n ≡ cond (is_some (cond b (Some x) None)) 0 n
-made-reserved true x n = refl
-made-reserved false x n = refl
-
-pub head_shown : (h : Head) (c : Counts) → c.available ≡ cond h.reservation.made 0 h.stock → c.stock ≡ h.stock → c.closed ≡ h.closed → c.queued ≡ length (waiters_of h.waiters)
+pub head_shown : (h : Head) (c : Counts) → c.available ≡ cond (is_some h.reservation) 0 h.stock → c.stock ≡ h.stock → c.closed ≡ h.closed → c.queued ≡ length (waiters_of h.waiters)
     → (slots tasks : List ℕ) → ShownBy c (plain_of h slots tasks)
 head_shown h c a b d e slots tasks =
-    record { available = a ∙ made-reserved h.reservation.made h.reservation.slot h.stock; stock = b; closed = d; queued = e }
+    record { available = a; stock = b; closed = d; queued = e }
 
 -- A queue is no longer than its array.
 pub queued-fits : (h : Head) (n : ℕ) → length h.waiters.slots ≡ 32 → n ≡ length (waiters_of h.waiters) → n < 4294967296

@@ -1,3 +1,1 @@
-pub mod Shifting
 pub mod Lists
-pub mod Reserved

@@ -1,81 +1,93 @@
--- Laws on the slots of a queue: where one stands, and the queue without it.
-use Prim.Native.Nat.{ℕ, suc, ◌+◌, ◌<◌, ◌≤◌}
+-- Laws on the slots of a queue: its length, and the queue without one of its slots.
+use Rattle.std.specs.Prelude.{None, Some, position, remove}
+use Rattle.std.specs.List.{position_or_len, copy_within}
+use Prim.Native.Nat.{ℕ, suc, ◌+◌, ◌-◌, ◌<◌, ◌≤◌}
 use native.Mathlib.Numerals.{add-one}
 use native.Mathlib.Omega.{arith}
 use mathlib.Core.Path.{◌≡◌, refl, sym, ap, ◌∙◌}
-use mathlib.Core.Bool.{Bool, true, false, cond}
-use mathlib.Core.List.{List, [], ◌∷◌}
-use borrow.Author.Tests.{eq-eqb, ne_eqb}
-use lib.ListN.{length, get_or, set, take, drop, drop_of_length-le, length-take}
-use lib.Seq.{slice-cons, length-take-le, take_all}
+use mathlib.Core.Bool.{Bool, true, false, cond, not}
+use mathlib.Core.List.{List, [], ◌∷◌, ◌++◌}
+use borrow.Author.Tests.{ltb-true, ltb-false}
+use lib.Dec.{ltb}
+use lib.ListN.{length, take, drop, length-append, length-drop}
+use lib.Seq.{length-take-le, take-take, take-append_seam}
+use Rattle.std.proofs.lemmas.List.{drop-take}
 use Rattle.rules.specs.declared.Slot.{Slot}
 use Rattle.rules.specs.State.{same_slot}
 use Rattle.rules.specs.Scan.{without}
-use Rattle.queue.specs.View.{waiters_of, index_of, remove_at}
+use Rattle.queue.specs.View.{waiters_of}
 use Rattle.queue.specs.declared.Waiters.{Waiters}
-
--- ---- where a slot stands
-
--- a place at which the slot stands, one at which it does not, and the end
-module _ (x d : Slot) (l : List Slot) (i len : ℕ) (fits : len ≤ length l) where
-  front : i < len → index_of x (drop i (take len l)) ≡ cond (same_slot x (get_or l i d)) 0 (suc (index_of x (drop (suc i) (take len l))))
-  unfolding index_of
-  front h = rw (slice-cons i len l d h fits)
-
-  pub found : i < len → (get_or l i d).0 ≡ x.0 → i + index_of x (drop i (take len l)) ≡ i
-  found h e = let z : index_of x (drop i (take len l)) ≡ 0 = front h ∙ rw (eq-eqb x.0 (get_or l i d).0 (sym e)) in omega arith
-
-  pub passed : i < len → ((get_or l i d).0 ≡ x.0 → ⊥) → (i + 1) + index_of x (drop (i + 1) (take len l)) ≡ i + index_of x (drop i (take len l))
-  passed h n =
-      let z : index_of x (drop i (take len l)) ≡ suc (index_of x (drop (suc i) (take len l))) = front h ∙ rw (ne_eqb x.0 (get_or l i d).0 (λ e. n (sym e))) in
-      let y : index_of x (drop (i + 1) (take len l)) ≡ index_of x (drop (suc i) (take len l)) = rw add-one in
-      omega arith
-
-  pub ended : len ≤ i → i + index_of x (drop i (take len l)) ≡ i
-  unfolding index_of
-  ended h =
-      let z : index_of x (drop i (take len l)) ≡ 0 = rw (drop_of_length-le (take len l) {i = i} (omega (arith, length-take-le len l fits))) in
-      omega arith
 
 -- a queue that fits its array is as long as it says
 pub waiters-length : (w : Waiters) → length w.slots ≡ 32 → w.len ≤ 32 → length (waiters_of w) ≡ w.len
 unfolding waiters_of
 waiters-length w e h = length-take-le w.len w.slots (omega arith)
 
--- one past its array is the whole array
-pub waiters_past : (w : Waiters) → length w.slots ≡ 32 → 32 < w.len → length (waiters_of w) ≡ 32
-unfolding waiters_of
-waiters_past w n h = ap (λ (l : List Slot). length l) (take_all w.len w.slots (omega arith)) ∙ n
+-- those behind a slot moved one place to the front
+pub closed_up : (q : List Slot) (i len : ℕ) → i < len → len ≤ length q → take (len - 1) (copy_within q (i + 1) len i) ≡ remove (take len q) i
+closed_up q i len h k =
+    ap (λ (n : ℕ). take n (kept ++ drop (i + m) q)) (sym size)
+    ∙ take-append_seam kept (drop (i + m) q)
+    ∙ sym (ap (λ (l : List Slot). l ++ drop (suc i) (take len q)) (take-take i len q (omega arith)) ∙ ap (λ (l : List Slot). take i q ++ l) behind)
+  where
+    m : ℕ
+    m = len - (i + 1)
 
--- one that is not full has a place left
-pub waiters-room : (w : Waiters) → length w.slots ≡ 32 → length (waiters_of w) < 32 → w.len < 32
-unfolding waiters_of
-waiters-room w e h = omega (arith, simp length-take at h)
+    kept : List Slot
+    kept = take i q ++ take m (drop (i + 1) q)
+
+    size : length kept ≡ len - 1
+    size =
+        omega (
+          arith,
+          length-append (take i q) (take m (drop (i + 1) q)),
+          length-take-le i q (omega arith),
+          length-take-le m (drop (i + 1) q) (omega (arith, length-drop (i + 1) q)),
+        )
+
+    behind : drop (suc i) (take len q) ≡ take m (drop (i + 1) q)
+    behind =
+        let all : suc i + m ≡ len = omega arith in
+        ap (λ (n : ℕ). drop (suc i) (take n q)) (sym all) ∙ drop-take (suc i) m q ∙ ap (λ (n : ℕ). take m (drop n q)) (sym (add-one i))
 
 -- without a slot: without the place where it first stands
-removed_here : (x y : Slot) (q : List Slot) (b : Bool) → (index_of x q < length q → remove_at (index_of x q) q ≡ without x q)
-    → cond b 0 (suc (index_of x q)) < suc (length q) → remove_at (cond b 0 (suc (index_of x q))) (y ∷ q) ≡ cond b q (y ∷ without x q)
-removed_here x y q true f h = refl
-removed_here x y q false f h =
-    let e : suc (index_of x q) + 1 ≡ suc (index_of x q + 1) = omega arith in
-    rw e (ap (λ (l : List Slot). y ∷ l) (f (omega arith)))
+removed_here : (x y : Slot) (q : List Slot) (n : ℕ) (b : Bool) → (n < length q → remove q n ≡ without x q)
+    → cond (not b) (1 + n) 0 < suc (length q) → remove (y ∷ q) (cond (not b) (1 + n) 0) ≡ cond b q (y ∷ without x q)
+removed_here x y q n true f h = refl
+removed_here x y q n false f h = let e : 1 + n ≡ suc n = omega arith in rw e (ap (λ (l : List Slot). y ∷ l) (f (omega arith)))
 
-pub removed : (x : Slot) (q : List Slot) → index_of x q < length q → remove_at (index_of x q) q ≡ without x q
-unfolding index_of without
-removed x [] h = absurd (omega arith)
-removed x (y ∷ q) h = removed_here x y q (same_slot x y) (λ l. removed x q l) h
+first_removed : (x : Slot) (q : List Slot) → position_or_len (same_slot x) q < length q → remove q (position_or_len (same_slot x) q) ≡ without x q
+unfolding without
+first_removed x [] h = absurd (omega arith)
+first_removed x (y ∷ q) h = removed_here x y q (position_or_len (same_slot x) q) (same_slot x y) (λ l. first_removed x q l) h
 
-absent_here : (x y : Slot) (q : List Slot) (b : Bool) → (length q ≤ index_of x q → q ≡ without x q)
-    → suc (length q) ≤ cond b 0 (suc (index_of x q)) → y ∷ q ≡ cond b q (y ∷ without x q)
-absent_here x y q true f h = absurd (omega arith)
-absent_here x y q false f h = ap (λ (l : List Slot). y ∷ l) (f (omega arith))
+absent_here : (x y : Slot) (q : List Slot) (n : ℕ) (b : Bool) → (length q ≤ n → q ≡ without x q)
+    → suc (length q) ≤ cond (not b) (1 + n) 0 → y ∷ q ≡ cond b q (y ∷ without x q)
+absent_here x y q n true f h = absurd (omega arith)
+absent_here x y q n false f h = ap (λ (l : List Slot). y ∷ l) (f (omega arith))
 
-pub absent : (x : Slot) (q : List Slot) → length q ≤ index_of x q → q ≡ without x q
-unfolding index_of without
-absent x [] h = refl
-absent x (y ∷ q) h = absent_here x y q (same_slot x y) (λ l. absent x q l) h
+none_removed : (x : Slot) (q : List Slot) → length q ≤ position_or_len (same_slot x) q → q ≡ without x q
+unfolding without
+none_removed x [] h = refl
+none_removed x (y ∷ q) h = absent_here x y q (position_or_len (same_slot x) q) (same_slot x y) (λ l. none_removed x q l) h
 
--- ---- a slot in front of those that were moved to the back
-pub in_front : (a : List Slot) (x : Slot) (n : ℕ) → 0 < length a → take (n + 1) (set a 0 x) ≡ x ∷ take n (drop 1 a)
-in_front [] x n h = absurd (omega arith)
-in_front (y ∷ a) x n h = rw add-one
+found_at : (b : Bool) (n i : ℕ) → cond b (Some n) None ≡ Some i → (b ≡ true) × (n ≡ i)
+found_at true n i e = (refl, cc)
+found_at false n i e = cc
+
+none_at : (b : Bool) (n : ℕ) → cond b (Some n) None ≡ None → b ≡ false
+none_at true n e = cc
+none_at false n e = refl
+
+module _ (x : Slot) (q : List Slot) where
+  abbrev n : ℕ
+  n = position_or_len (same_slot x) q
+
+  pub removed : (i : ℕ) → position (same_slot x) q ≡ Some i → (i < length q) × (remove q i ≡ without x q)
+  removed i e =
+      let f = found_at (ltb n (length q)) n i e in
+      let l : n < length q = ltb-true n (length q) f.0 in
+      (omega (arith, f.1), ap (λ (k : ℕ). remove q k) (sym f.1) ∙ first_removed x q l)
+
+  pub absent : position (same_slot x) q ≡ None → q ≡ without x q
+  absent e = none_removed x q (ltb-false n (length q) (none_at (ltb n (length q)) n e))

@@ -1,11 +1,10 @@
-// Who waits, by slot number: the queue, after the source's `VecDeque<Arc<Waiter>>`, and the reservation, after its
-// `Option<Arc<Waiter>>`.
+// Who waits, by slot number: the queue, after the source's `VecDeque<Arc<Waiter>>`.
 #![tactic(auto)]
 
-ghost use Rattle.std.specs.Prelude.{◌≡◌, [], ◌∷◌, ◌++◌, ◌+◌, ◌-◌, ◌≤◌, ◌<◌, length, get_or, take, drop, None, Some};
-ghost use Rattle.rules.specs.State.{is_the};
+ghost use Rattle.std.specs.Prelude.{◌≡◌, position, remove, slice_get, [], ◌∷◌, ◌++◌, ◌+◌, ◌-◌, ◌≤◌, ◌<◌, length, get_or, take, drop};
+ghost use Rattle.rules.specs.State.{same_slot};
 ghost use Rattle.rules.specs.Scan.{without};
-ghost use Rattle.queue.specs.View.{waiters_of, slot0, index_of, remove_at, Holds, reservation_of};
+ghost use Rattle.queue.specs.View.{waiters_of, slot0, Holds};
 
 use rules::Slot;
 
@@ -15,43 +14,7 @@ pub struct Waiters {
     pub len: u32,
 }
 
-// The slot that has the reservation, if one was made.
-#[derive(Clone, Copy)]
-pub struct Reservation {
-    pub made: bool,
-    pub slot: Slot,
-}
-
-impl Reservation {
-    pub fn none() -> Reservation
-        ensures { reservation_of result ≡ None }
-    {
-        Reservation {
-            made: false,
-            slot: Slot(0),
-        }
-    }
-
-    pub fn of(x: Slot) -> Reservation
-        ensures { reservation_of result ≡ Some x }
-    {
-        Reservation {
-            made: true,
-            slot: x,
-        }
-    }
-
-    // Whether the slot has the reservation.
-    pub fn is_of(self, x: Slot) -> bool
-        ensures { result ≡ is_the x (reservation_of self) }
-    {
-        if self.made {
-            return x.0 == self.slot.0;
-        }
-        false
-    }
-}
-
+#[tactic(auto, unfolding(crate::specs::View::waiters_of))]
 impl Waiters {
     // The most that can wait in the queue.
     pub const PLACES: usize = 32;
@@ -65,14 +28,25 @@ impl Waiters {
         }
     }
 
-    // How many slots stand in the array.
+    // How many slots stand in the array. Any length may be handed in: refusal 14 sees one above the places there are.
     pub fn length(self) -> usize
         ensures { result ≡ length (waiters_of self) }
     {
-        if 32 < self.len {
-            return Waiters::PLACES;
-        }
-        self.len as usize
+        self.in_use().len()
+    }
+
+    // The slots that wait, from the front.
+    pub fn in_use(&self) -> &[Slot]
+        ensures { result.now ≡ waiters_of self.now }
+    {
+        &self.slots[..(self.len as usize).min(Waiters::PLACES)]
+    }
+
+    // Who waits first.
+    pub fn front(&self) -> Option<Slot>
+        ensures { result ≡ slice_get (waiters_of self.now) 0 }
+    {
+        self.in_use().first().copied()
     }
 
     // The slot at place i.
@@ -88,9 +62,8 @@ impl Waiters {
         ensures { Holds result (waiters_of self ++ x ∷ []) }
     {
         let mut out = self;
-        let at = out.len as usize;
-        out.slots[at] = x;
-        out.len = out.len + 1;
+        out.slots[self.len as usize] = x;
+        out.len += 1;
         out
     }
 
@@ -98,46 +71,29 @@ impl Waiters {
         requires { length (waiters_of self) < 32 }
         ensures { Holds result (x ∷ waiters_of self) }
     {
-        let before = self.slots;
-        let len = self.len as usize;
-        let mut after = shifted_back(before, len);
-        after[0] = x;
-        Waiters {
-            slots: after,
-            len: self.len + 1,
-        }
+        let mut out = self;
+        out.slots.copy_within(..self.len as usize, 1);
+        out.slots[0] = x;
+        out.len += 1;
+        out
     }
 
-    // Where the slot first stands; the length where it does not.
-    pub fn position(self, x: Slot) -> usize
-        requires { self.len ≤ 32 }
-        ensures { result ≡ index_of x (waiters_of self) }
+    // Where the slot first stands.
+    pub fn position(self, x: Slot) -> Option<usize>
+        ensures { result ≡ position (same_slot x) (waiters_of self) }
     {
-        let n = x.0;
-        let len = self.len as usize;
-        let mut i: usize = 0;
-        while i < len {
-            let here = self.slots[i];
-            if here.0 == n {
-                return i;
-            }
-            i += 1;
-        }
-        len
+        self.in_use().iter().position(|&y| x == y)
     }
 
     // Without the slot at place i.
     pub fn remove_at(self, i: usize) -> Waiters
         requires { (i < self.len) × (self.len ≤ 32) }
-        ensures { Holds result (remove_at i (waiters_of self)) }
+        ensures { Holds result (remove (waiters_of self) i) }
     {
-        let before = self.slots;
-        let len = self.len as usize;
-        let after = shifted_front(before, i, len);
-        Waiters {
-            slots: after,
-            len: self.len - 1,
-        }
+        let mut out = self;
+        out.slots.copy_within(i + 1..self.len as usize, i);
+        out.len -= 1;
+        out
     }
 
     // Without the slot, where it first stands.
@@ -145,40 +101,9 @@ impl Waiters {
         requires { self.len ≤ 32 }
         ensures { Holds result (without x (waiters_of self)) }
     {
-        let i = self.position(x);
-        if i < self.len as usize {
-            return self.remove_at(i);
+        match self.position(x) {
+            Some(i) => self.remove_at(i),
+            None => self,
         }
-        self
     }
-}
-
-// The first len slots one place further to the back.
-fn shifted_back(q: [Slot; 32], len: usize) -> [Slot; 32]
-    requires { len < 32 }
-    ensures { (length result ≡ 32) × (take len (drop 1 result) ≡ take len q) }
-{
-    let mut a = q;
-    let mut j = len;
-    while 0 < j {
-        let x = a[j - 1];
-        a[j] = x;
-        j -= 1;
-    }
-    a
-}
-
-// The first len slots without the one at i: those behind it stand one place further to the front.
-fn shifted_front(q: [Slot; 32], i: usize, len: usize) -> [Slot; 32]
-    requires { (i < len) × (len ≤ 32) }
-    ensures { (length result ≡ 32) × (take (len - 1) result ≡ remove_at i (take len q)) }
-{
-    let mut a = q;
-    let mut j = i;
-    while j + 1 < len {
-        let next = a[j + 1];
-        a[j] = next;
-        j += 1;
-    }
-    a
 }

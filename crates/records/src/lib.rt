@@ -31,39 +31,13 @@ pub struct Request {
 }
 
 // ---- tasks
-// Whether a state is Runnable.
-fn is_runnable(s: TaskState) -> bool
-    ensures { result ≡ is_runnable s }
-{
-    match s {
-        TaskState::Runnable => true,
-        TaskState::Blocked => false,
-        TaskState::Sleeping => false,
-        TaskState::Finished => false,
-    }
-}
-
-// Whether a state is Finished.
-fn is_finished(s: TaskState) -> bool
-    ensures { result ≡ is_finished s }
-{
-    match s {
-        TaskState::Runnable => false,
-        TaskState::Blocked => false,
-        TaskState::Sleeping => false,
-        TaskState::Finished => true,
-    }
-}
-
 // The state after a waker's call: a Sleeping task is unblocked.
 fn rouse(s: TaskState) -> TaskState
     ensures { result ≡ roused s }
 {
     match s {
-        TaskState::Runnable => TaskState::Runnable,
-        TaskState::Blocked => TaskState::Blocked,
         TaskState::Sleeping => TaskState::Runnable,
-        TaskState::Finished => TaskState::Finished,
+        _ => s,
     }
 }
 
@@ -81,15 +55,13 @@ impl Task {
     pub fn runnable(self) -> bool
         ensures { result ≡ is_runnable self.state }
     {
-        let state = self.state;
-        is_runnable(state)
+        self.state == TaskState::Runnable
     }
 
     pub fn finished(self) -> bool
         ensures { result ≡ is_finished self.state }
     {
-        let state = self.state;
-        is_finished(state)
+        self.state == TaskState::Finished
     }
 
     pub fn block(self) -> Task
@@ -122,15 +94,13 @@ impl Task {
     pub fn sleep_unless_woken(self) -> Task
         ensures { task_seen result ≡ slept (task_seen self) }
     {
-        let state = self.state;
-        if self.woken {
-            return Task {
-                state,
-                woken: false,
-            };
-        }
+        let state = if self.woken {
+            self.state
+        } else {
+            TaskState::Sleeping
+        };
         Task {
-            state: TaskState::Sleeping,
+            state,
             woken: false,
         }
     }
@@ -138,9 +108,10 @@ impl Task {
     pub fn wake(self) -> Task
         ensures { task_seen result ≡ wakened (task_seen self) }
     {
-        let old = self.state;
-        let state = rouse(old);
-        Task { state, woken: true }
+        Task {
+            state: rouse(self.state),
+            woken: true,
+        }
     }
 }
 
@@ -148,21 +119,13 @@ impl Task {
 pub fn is_bypassable(k: Priority) -> bool
     ensures { result ≡ is_bypassable k }
 {
-    match k {
-        Priority::Back => false,
-        Priority::Bypassable => true,
-        Priority::Front => false,
-    }
+    k == Priority::Bypassable
 }
 
 pub fn is_front(k: Priority) -> bool
     ensures { result ≡ is_front k }
 {
-    match k {
-        Priority::Back => false,
-        Priority::Bypassable => false,
-        Priority::Front => true,
-    }
+    k == Priority::Front
 }
 
 // The ask of a request that takes all of its permits or none.
@@ -181,11 +144,10 @@ pub fn plain_ask(kind: Priority, num_permits: u32) -> Ask
 pub fn reserving_ask(least: u32, num_permits: u32) -> Ask
     ensures { result ≡ reserving_ask least num_permits }
 {
-    let kind = Priority::Back;
     Ask {
         asked: num_permits,
         least,
-        kind,
+        kind: Priority::Back,
         reserving: true,
     }
 }
@@ -202,8 +164,7 @@ pub fn upgrade_ask(strictly_fair: bool, num_permits: u32) -> Ask
     ensures { result ≡ upgrade_ask strictly_fair num_permits }
 {
     if strictly_fair {
-        let kind = Priority::Front;
-        return plain_ask(kind, num_permits);
+        return plain_ask(Priority::Front, num_permits);
     }
     reserving_ask(0, num_permits)
 }

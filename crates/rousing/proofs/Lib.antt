@@ -1,4 +1,3 @@
-pub mod Changes
 pub mod Turns
 pub mod Rules
 pub mod Whole

@@ -12,7 +12,7 @@ ghost use Rattle.head.specs.View.{plain_of, Shaped, Shows};
 ghost use Rattle.rousing.specs.Parts.{request_in, concerns, change_of, owner_changed, for_each, woken_if_asked};
 
 use head::Head;
-use queue::{Reservation, Waiters};
+use queue::Waiters;
 use records::{Request, Task};
 use rules::{Slot, TaskId};
 
@@ -35,13 +35,7 @@ pub enum Change {
 fn is_held_up(waiter: Request, reserved: bool, stock: u32, me: TaskId) -> bool
     ensures { result ≡ (not (eqb waiter.task me.0) && (reserved || ltb stock waiter.ask.least)) }
 {
-    if waiter.task == me.0 as u32 {
-        return false;
-    }
-    if reserved {
-        return true;
-    }
-    stock < waiter.ask.least
+    waiter.task != me.0 as u32 && (reserved || stock < waiter.ask.least)
 }
 
 // Whether the change is for the task of such a request.
@@ -59,23 +53,12 @@ fn concerned(waiter: Request, change: Change) -> bool
     }
 }
 
-fn unblock_and_wake(owner: Task) -> Task
-    ensures { task_seen result ≡ wakened (unblocked (task_seen owner)) }
-{
-    owner.unblock().wake()
-}
-
 fn changed(owner: Task, change: Change) -> Task
     ensures { task_seen result ≡ change_of change (task_seen owner) }
 {
     match change {
-        Change::Wake => unblock_and_wake(owner),
-        Change::WakeIfEnough(_) => unblock_and_wake(owner),
-        Change::Reblock {
-            reserved: _,
-            stock: _,
-            me: _,
-        } => owner.block(),
+        Change::Wake | Change::WakeIfEnough(_) => owner.unblock().wake(),
+        Change::Reblock { .. } => owner.block(),
     }
 }
 
@@ -85,28 +68,19 @@ pub fn change_owner(slots: &[u32], tasks: &mut [u32], count: u32, x: Slot, chang
     ensures { TasksShow count tasks.new tasks.old (owner_changed change (request_in (slots_of slots.now) x) (tasks_of count tasks.old)) }
 {
     let waiter = words::request_at(slots, x);
-    if !concerned(waiter, change) {
-        return;
-    }
     let owner = words::task_at(tasks, count, waiter.task);
-    if owner.finished() {
-        return;
+    if concerned(waiter, change) && !owner.finished() {
+        words::put_task(tasks, count, waiter.task, changed(owner, change));
     }
-    let after = changed(owner, change);
-    words::put_task(tasks, count, waiter.task, after);
 }
 
 // The same for every queued request, from the front.
 fn change_owners(waiters: Waiters, slots: &[u32], tasks: &mut [u32], count: u32, change: Change)
-    requires { (waiters.len ≤ slot_count) × (count ≤ max_tasks) × (length slots.now ≡ slot_count * request_words) × (length tasks.old ≡ max_tasks * task_words) }
+    requires { (count ≤ max_tasks) × (length slots.now ≡ slot_count * request_words) × (length tasks.old ≡ max_tasks * task_words) }
     ensures { TasksShow count tasks.new tasks.old (for_each change (slots_of slots.now) (waiters_of waiters) (tasks_of count tasks.old)) }
 {
-    let len = waiters.len as usize;
-    let mut i: usize = 0;
-    while i < len {
-        let x = waiters.slots[i];
+    for &x in waiters.in_use() {
         change_owner(slots, tasks, count, x, change);
-        i += 1;
     }
 }
 
@@ -115,10 +89,9 @@ fn wake_holder(holder: Request, stock: u32, tasks: &mut [u32], count: u32)
     requires { (count ≤ max_tasks) × (length tasks.old ≡ max_tasks * task_words) }
     ensures { TasksShow count tasks.new tasks.old (woken_if_asked stock (request_of holder) (tasks_of count tasks.old)) }
 {
-    if stock < holder.ask.asked {
-        return;
+    if holder.ask.asked <= stock {
+        words::rouse(tasks, count, holder.task);
     }
-    words::rouse(tasks, count, holder.task);
 }
 
 // The reservation is cleared, and whoever is queued and can now go on is woken.
@@ -126,12 +99,10 @@ pub fn cancel_reservation(h: Head, slots: &[u32], tasks: &mut [u32]) -> Head
     requires { Shaped h slots.now tasks.old }
     ensures { Shows result slots.now tasks.new (plain_of h slots.now tasks.old ▷ with_reservation None ▷ wake_unfair) }
 {
-    let waiters = h.waiters;
     let race = Change::WakeIfEnough(h.stock);
-    change_owners(waiters, slots, tasks, h.tasks, race);
-    let unreserved = Reservation::none();
+    change_owners(h.waiters, slots, tasks, h.tasks, race);
     let mut out = h;
-    out.reservation = unreserved;
+    out.reservation = None;
     out
 }
 
@@ -141,11 +112,10 @@ pub fn wake_unfair_waiters(h: Head, slots: &[u32], tasks: &mut [u32]) -> Head
     requires { Shaped h slots.now tasks.old }
     ensures { Shows result slots.now tasks.new (wake_unfair (plain_of h slots.now tasks.old)) }
 {
-    let reservation = h.reservation;
-    if !reservation.made {
+    let Some(x) = h.reservation else {
         return cancel_reservation(h, slots, tasks);
-    }
-    let holder = words::request_at(slots, reservation.slot);
+    };
+    let holder = words::request_at(slots, x);
     if words::finished(tasks, h.tasks, holder.task) {
         return cancel_reservation(h, slots, tasks);
     }
@@ -161,11 +131,10 @@ pub fn reblock_if_unfair(h: Head, slots: &[u32], tasks: &mut [u32], me: TaskId)
     if h.strictly_fair() {
         return;
     }
-    let waiters = h.waiters;
     let change = Change::Reblock {
-        reserved: h.reservation.made,
+        reserved: h.reservation.is_some(),
         stock: h.stock,
         me,
     };
-    change_owners(waiters, slots, tasks, h.tasks, change);
+    change_owners(h.waiters, slots, tasks, h.tasks, change);
 }

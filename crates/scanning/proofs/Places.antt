@@ -1,6 +1,6 @@
 -- A slot at its place in a queue that names none twice: the queue without it.
+use Rattle.std.specs.Prelude.{remove}
 use Prim.Native.Nat.{ℕ, suc}
-use native.Mathlib.Numerals.{add-one}
 use native.Mathlib.Omega.{arith}
 use mathlib.Core.Path.{◌≡◌, sym, ap, subst, ◌∙◌}
 use mathlib.Core.Bool.{false}
@@ -11,7 +11,7 @@ use Rattle.rules.specs.declared.Slot.{Slot}
 use Rattle.rules.specs.Broken.{twice}
 use Rattle.rules.specs.Scan.{without}
 use Rattle.rules.proofs.Queues.{once_middle, without_middle}
-use Rattle.queue.specs.View.{slot0, remove_at}
+use Rattle.queue.specs.View.{slot0}
 use Rattle.scanning.specs.View.{StandsAt}
 
 module _ (x : Slot) (i : ℕ) (q : List Slot) (p : StandsAt x i q) where
@@ -29,8 +29,8 @@ module _ (x : Slot) (i : ℕ) (q : List Slot) (p : StandsAt x i q) where
   size : length (take i q) ≡ i
   size = length-take-le i q (omega (arith, p.within))
 
-  pub removed_at : remove_at i q ≡ without x q
-  removed_at = ap (λ (n : ℕ). take i q ++ drop n q) (add-one i) ∙ sym gone
+  pub removed_at : remove q i ≡ without x q
+  removed_at = sym gone
 
   -- those behind it stand at its place
   pub moved : drop i (without x q) ≡ drop (suc i) q

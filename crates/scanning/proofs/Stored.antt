@@ -1,12 +1,12 @@
 -- The verdict, a joining, a leaving and a grant put together from their parts.
-use Rattle.std.specs.Prelude.{Option, None, Some, option_map}
+use Rattle.std.specs.Prelude.{Option, None, Some, option_map, remove}
 use Prim.Native.Nat.{ℕ, ◌-◌, ◌≤◌, ◌<◌}
 use native.Mathlib.Decide.{dec_lt}
 use native.Mathlib.Omega.{arith}
 use mathlib.Core.Path.{◌≡◌, refl, sym, ap, subst, ◌∙◌}
 use mathlib.Core.Bool.{Bool, true, false, cond}
 use mathlib.Core.List.{List, [], ◌∷◌, ◌++◌}
-use borrow.Author.Tests.{le-leb, lt-leb, leb-true}
+use borrow.Author.Tests.{leb-true}
 use lib.Dec.{leb}
 use lib.ListN.{length, get_or, set, length-take}
 use lib.Seq.{get_or-set_same, set-set, set_out}
@@ -20,7 +20,7 @@ use Rattle.rules.proofs.Bools.{by_cond}
 use Rattle.splitting.specs.Plain.{Plain, Task, Request as RequestRule, no_task, queued_as, held, unblocked, wakened, request_at, with_queue, alter_request, ◌▷◌}
 use Rattle.splitting.specs.Who.{queue_back, queue_front, leave, verdict, grant_queued}
 use Rattle.queue.specs.declared.Waiters.{Waiters}
-use Rattle.queue.specs.View.{waiters_of, reservation_of, remove_at, Holds}
+use Rattle.queue.specs.View.{waiters_of, Holds}
 use Rattle.records.specs.declared.Request.{Request}
 use Rattle.records.specs.declared.Marking.{Marking}
 use Rattle.records.specs.declared.Marking.TheVariants.{Joins, Leaves as LeavesQueue, IsGranted}
@@ -34,20 +34,6 @@ use Rattle.scanning.proofs.Places.{removed_at}
 
 -- ---- the verdict
 module _ (ts : List Task) (r : RequestRule) (n : ℕ) where
-  module _ (f : Bool) (ef : f ≡ is_finished (get_or ts r.task.0 no_task).state) where
-    pub judged_leaves : f ≡ true → Leaves ≡ verdict_as ts r n
-    judged_leaves t = rw (← ef, t)
-
-    pub judged_fits : f ≡ false → r.ask.asked ≤ n → Fits ≡ verdict_as ts r n
-    judged_fits t l = rw (← ef, t, le-leb r.ask.asked n l)
-
-    module _ (t : f ≡ false) (l : n < r.ask.asked) (b : Bool) (eb : b ≡ is_bypassable r.ask.kind) where
-      pub judged_passed : b ≡ true → Passed ≡ verdict_as ts r n
-      judged_passed u = rw (← ef, t, lt-leb r.ask.asked n l, ← eb, u)
-
-      pub judged_ends : b ≡ false → Ends ≡ verdict_as ts r n
-      judged_ends u = rw (← ef, t, lt-leb r.ask.asked n l, ← eb, u)
-
   abbrev Says : Verdict → Type 0
   Says Leaves = 0 ≤ n
   Says Fits = r.ask.asked ≤ n
@@ -72,12 +58,6 @@ judged_there s x r e = ap (λ (q : RequestRule). verdict_as s.tasks q s.stock) e
 abbrev queueing : Head → Waiters → Head
 queueing h w = head_with h.stock w h.reservation h
 
-pub joins_front : (b : Bool) (r : Waiters) (x : Slot) (q : List Slot) → b ≡ true → Holds r (x ∷ q) → Holds r (cond b (x ∷ q) (q ++ x ∷ []))
-joins_front b r x q e k = subst (λ (b : Bool). Holds r (cond b (x ∷ q) (q ++ x ∷ []))) (sym e) k
-
-pub joins_back : (b : Bool) (r : Waiters) (x : Slot) (q : List Slot) → b ≡ false → Holds r (q ++ x ∷ []) → Holds r (cond b (x ∷ q) (q ++ x ∷ []))
-joins_back b r x q e k = subst (λ (b : Bool). Holds r (cond b (x ∷ q) (q ++ x ∷ []))) (sym e) k
-
 module _ (h : Head) (slots after : List ℕ) (x : Slot) (w : Waiters) (m : Marking)
     (e : SlotsShow after slots (altered x (marking m) (slots_of slots))) (k : length after ≡ length slots) where
   -- another queue, and the mark
@@ -92,7 +72,7 @@ module _ (h : Head) (slots after : List ℕ) (x : Slot) (w : Waiters) (m : Marki
               closed = h.closed;
               stock = h.stock;
               queue = lo.view i;
-              reservation = reservation_of h.reservation;
+              reservation = h.reservation;
               tasks = tasks_of h.tasks tasks;
               slots = e.view i;
             };
@@ -109,7 +89,7 @@ module _ (h : Head) (slots after : List ℕ) (x : Slot) (w : Waiters) where
     pub left_so : Holds w (without x (waiters_of h.waiters)) → AnyTasks (leave x) (queueing h w) after h slots
     left_so lo = queued_so h slots after x w LeavesQueue e k (without x (waiters_of h.waiters)) lo
 
-    pub left_at : (i : ℕ) → StandsAt x i (waiters_of h.waiters) → Holds w (remove_at i (waiters_of h.waiters)) → AnyTasks (leave x) (queueing h w) after h slots
+    pub left_at : (i : ℕ) → StandsAt x i (waiters_of h.waiters) → Holds w (remove (waiters_of h.waiters) i) → AnyTasks (leave x) (queueing h w) after h slots
     left_at i p lo = left_so (subst (λ (q : List Slot). Holds w q) (removed_at x i (waiters_of h.waiters) p) lo)
 
 -- its place is within the array
@@ -140,7 +120,7 @@ roused_in ts t = set ts t (wakened (unblocked (get_or ts t no_task)))
 
 module _ (h : Head) (slots later tasks awake : List ℕ) (x : Slot) (i : ℕ) (q : Request) (w : Waiters)
     (s : Shaped h slots tasks) (st : Stands q (get_or (slots_of slots) x.0 None))
-    (p : StandsAt x i (waiters_of h.waiters)) (lo : Holds w (remove_at i (waiters_of h.waiters)))
+    (p : StandsAt x i (waiters_of h.waiters)) (lo : Holds w (remove (waiters_of h.waiters) i))
     (es : SlotsShow later slots (altered x (marking IsGranted) (slots_of slots))) (ks : length later ≡ length slots)
     (et : TasksShow h.tasks awake tasks (roused_in (tasks_of h.tasks tasks) q.task)) (kt : length awake ≡ length tasks) where
   slots-after : slots_of later ≡ altered x held (altered x (queued_as false) (slots_of slots))
@@ -170,7 +150,7 @@ module _ (h : Head) (slots later tasks awake : List ℕ) (x : Slot) (i : ℕ) (q
               closed = h.closed;
               stock = stock-after j;
               queue = queue-after j;
-              reservation = reservation_of h.reservation;
+              reservation = h.reservation;
               tasks = tasks-after j;
               slots = slots-after j;
             };

@@ -5,6 +5,7 @@
 ghost use Rattle.std.specs.Prelude.{◌≡◌, false, cond, ◌&&◌, ◌||◌, [], ◌∷◌, ◌++◌, ◌*◌, ◌≤◌, ◌<◌, length, get_or, None};
 ghost use Rattle.rules.specs.Sizes.{slot_count, max_tasks};
 ghost use Rattle.rules.specs.State.{is_strict};
+ghost use Rattle.rules.specs.Request.{is_front};
 ghost use Rattle.rules.specs.Broken.{twice};
 ghost use Rattle.rules.specs.Steps.{is_first};
 ghost use Rattle.splitting.specs.Who.{queue_back, queue_front, leave as leave_of, grant_queued, scan, drop_queued};
@@ -17,29 +18,19 @@ ghost use Rattle.scanning.specs.View.{AnyTasks, StandsAt, verdict_as, front_as};
 use head::{Granting, Head};
 use queue::Waiters;
 use records::{Marking, Request};
-use rules::{Slot, Verdict};
-
-fn joined(w: Waiters, x: Slot, front: bool) -> Waiters
-    requires { length (waiters_of w) < slot_count }
-    ensures { Holds result (cond front (x ∷ waiters_of w) (waiters_of w ++ x ∷ [])) }
-{
-    if front {
-        return w.push_front(x);
-    }
-    w.push_back(x)
-}
+use rules::{Priority, Slot, Verdict};
 
 // The request in a slot joins the queue, in front of it or at its back.
-pub fn enqueue_waiter(h: Head, slots: &mut [u32], x: Slot, front: bool) -> Head
+pub fn enqueue_waiter(h: Head, slots: &mut [u32], x: Slot, priority: Priority) -> Head
     requires { (length (waiters_of h.waiters) < slot_count) × (length slots.old ≡ slot_count * request_words) }
-    ensures { AnyTasks (λ s. cond front (queue_front x s) (queue_back x s)) result slots.new h slots.old }
+    ensures { AnyTasks (λ s. cond (is_front priority) (queue_front x s) (queue_back x s)) result slots.new h slots.old }
 {
-    let m = Marking::Joins;
-    words::mark(slots, x, m);
-    let before = h.waiters;
-    let longer = joined(before, x, front);
+    words::mark(slots, x, Marking::Joins);
     let mut out = h;
-    out.waiters = longer;
+    out.waiters = match priority {
+        Priority::Front => h.waiters.push_front(x),
+        Priority::Back | Priority::Bypassable => h.waiters.push_back(x),
+    };
     out
 }
 
@@ -48,12 +39,9 @@ pub fn leave(h: Head, slots: &mut [u32], x: Slot) -> Head
     requires { (h.waiters.len ≤ slot_count) × (length slots.old ≡ slot_count * request_words) }
     ensures { AnyTasks (leave_of x) result slots.new h slots.old }
 {
-    let m = Marking::Leaves;
-    words::mark(slots, x, m);
-    let before = h.waiters;
-    let left = before.remove(x);
+    words::mark(slots, x, Marking::Leaves);
     let mut out = h;
-    out.waiters = left;
+    out.waiters = h.waiters.remove(x);
     out
 }
 
@@ -62,12 +50,9 @@ fn leave_at(h: Head, slots: &mut [u32], x: Slot, i: usize) -> Head
     requires { (h.waiters.len ≤ slot_count) × (length slots.old ≡ slot_count * request_words) × StandsAt x i (waiters_of h.waiters) }
     ensures { AnyTasks (leave_of x) result slots.new h slots.old }
 {
-    let m = Marking::Leaves;
-    words::mark(slots, x, m);
-    let before = h.waiters;
-    let left = before.remove_at(i);
+    words::mark(slots, x, Marking::Leaves);
     let mut out = h;
-    out.waiters = left;
+    out.waiters = h.waiters.remove_at(i);
     out
 }
 
@@ -77,17 +62,14 @@ fn judge(r: Request, stock: u32, tasks: &[u32], count: u32) -> Verdict
     ensures { result ≡ verdict_as (tasks_of count tasks.now) (request_of r) stock }
 {
     if words::finished(tasks, count, r.task) {
-        return Verdict::Leaves;
+        Verdict::Leaves
+    } else if r.ask.asked <= stock {
+        Verdict::Fits
+    } else if r.ask.kind == Priority::Bypassable {
+        Verdict::Passed
+    } else {
+        Verdict::Ends
     }
-    let ask = r.ask;
-    if ask.asked <= stock {
-        return Verdict::Fits;
-    }
-    let kind = ask.kind;
-    if records::is_bypassable(kind) {
-        return Verdict::Passed;
-    }
-    Verdict::Ends
 }
 
 // The queued request, which fits, is granted: held, out of the queue, its task unblocked and woken.
@@ -95,14 +77,11 @@ fn grant(h: Head, slots: &mut [u32], tasks: &mut [u32], x: Slot, i: usize, r: Re
     requires { (Shaped h slots.old tasks.old) × (Stands r (get_or (slots_of slots.old) x.0 None)) × (r.ask.asked ≤ h.stock) × StandsAt x i (waiters_of h.waiters) }
     ensures { Shows result slots.new tasks.new (grant_queued x (plain_of h slots.old tasks.old)) }
 {
-    let m = Marking::IsGranted;
-    words::mark(slots, x, m);
+    words::mark(slots, x, Marking::IsGranted);
     words::rouse(tasks, h.tasks, r.task);
-    let before = h.waiters;
-    let left = before.remove_at(i);
     let mut out = h;
-    out.stock = out.stock - r.ask.asked;
-    out.waiters = left;
+    out.stock -= r.ask.asked;
+    out.waiters = h.waiters.remove_at(i);
     out
 }
 
@@ -119,26 +98,18 @@ pub fn unblock_waiters_from_front(
     let mut now = h;
     let mut count: usize = 0;
     let mut i: usize = 0;
-    'walk: while i < now.queue_length() {
-        let waiters = now.waiters;
-        let x = waiters.at(i);
+    while i < now.queue_length() {
+        let x = now.waiters.at(i);
         let r = words::request_at(slots, x);
-        let v = judge(r, now.stock, tasks, now.tasks);
-        match v {
-            Verdict::Leaves => {
-                now = leave_at(now, slots, x, i);
-            }
+        match judge(r, now.stock, tasks, now.tasks) {
+            Verdict::Leaves => now = leave_at(now, slots, x, i),
             Verdict::Fits => {
                 words::push_grant(grants, count, x, r.ask.asked, r.task);
                 count += 1;
                 now = grant(now, slots, tasks, x, i, r);
             }
-            Verdict::Passed => {
-                i += 1;
-            }
-            Verdict::Ends => {
-                break 'walk;
-            }
+            Verdict::Passed => i += 1,
+            Verdict::Ends => break,
         }
     }
     Granting { head: now, count }
@@ -146,44 +117,28 @@ pub fn unblock_waiters_from_front(
 
 // Whether the slot stands first.
 fn is_first(waiters: Waiters, x: Slot) -> bool
-    requires { waiters.len ≤ slot_count }
     ensures { result ≡ is_first x (waiters_of waiters) }
 {
-    if waiters.length() == 0 {
-        return false;
-    }
-    let front = waiters.at(0);
-    x.0 == front.0
+    waiters.front() == Some(x)
 }
 
 // Whether the front request is Bypassable.
 fn front_is_bypassable(waiters: Waiters, slots: &[u32]) -> bool
-    requires { (waiters.len ≤ slot_count) × (length slots.now ≡ slot_count * request_words) }
+    requires { length slots.now ≡ slot_count * request_words }
     ensures { result ≡ front_as (waiters_of waiters) (slots_of slots.now) }
 {
-    if waiters.length() == 0 {
-        return false;
+    match waiters.front() {
+        Some(x) => words::request_at(slots, x).ask.kind == Priority::Bypassable,
+        None => false,
     }
-    let front = waiters.at(0);
-    let r = words::request_at(slots, front);
-    let ask = r.ask;
-    let kind = ask.kind;
-    records::is_bypassable(kind)
 }
 
 // Whether a queue that one has left must be scanned: on a strictly fair semaphore, if that one was first or the front is Bypassable.
 fn must_scan(h: Head, slots: &[u32], first: bool) -> bool
-    requires { (h.waiters.len ≤ slot_count) × (length slots.now ≡ slot_count * request_words) }
+    requires { length slots.now ≡ slot_count * request_words }
     ensures { result ≡ (is_strict h.fairness && (first || front_as (waiters_of h.waiters) (slots_of slots.now))) }
 {
-    if !h.strictly_fair() {
-        return false;
-    }
-    if first {
-        return true;
-    }
-    let waiters = h.waiters;
-    front_is_bypassable(waiters, slots)
+    h.strictly_fair() && (first || front_is_bypassable(h.waiters, slots))
 }
 
 // A queued request goes, and those behind it may be granted.
@@ -197,8 +152,7 @@ pub fn remove_waiter(
     requires { (Shaped h slots.old tasks.old) × (length grants.old ≡ slot_count * 3) × (twice (waiters_of h.waiters) ≡ false) }
     ensures { Grants result slots.new tasks.new grants.new (drop_queued x (plain_of h slots.old tasks.old)) }
 {
-    let waiters = h.waiters;
-    let first = is_first(waiters, x);
+    let first = is_first(h.waiters, x);
     let left = leave(h, slots, x);
     if must_scan(left, slots, first) {
         return unblock_waiters_from_front(left, slots, tasks, grants);

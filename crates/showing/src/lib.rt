@@ -112,18 +112,13 @@ fn put_waiters(buf: &mut [u8], at: usize, waiters: Waiters) -> usize {
 
 // The queue, and the reservation.
 fn put_queue(buf: &mut [u8], at: usize, h: Head) -> usize {
-    let r = h.reservation;
     let p = put_number(buf, at, 6);
     let q = put_waiters(buf, p, h.waiters);
     let e = put(buf, q, b"\n");
-    put_row(
-        buf,
-        e,
-        &[7],
-        &[u32::from(r.slot.0)],
-        0,
-        bit(r.made) as usize,
-    )
+    match h.reservation {
+        Some(x) => put_row(buf, e, &[7], &[u32::from(x.0)], 0, 1),
+        None => put_row(buf, e, &[7], &[], 0, 0),
+    }
 }
 
 // The batches from the oldest on, and their clocks of n entries.

@@ -27,8 +27,6 @@ use Rattle.clock.specs.declared.VectorClock.{VectorClock}
 use Rattle.records.specs.declared.Request.{Request}
 use Rattle.records.specs.declared.Task.{Task}
 use Rattle.records.specs.View.{task_seen, request_of, Stands}
-use Rattle.queue.specs.declared.Reservation.{Reservation}
-use Rattle.queue.specs.View.{reservation_of}
 use Rattle.words.specs.View.{task_words, task_in, tasks_of, slots_of}
 use Rattle.batches.specs.Broken.{permits_of}
 use Rattle.times.specs.View.{clocks_at, clock_in}
@@ -83,16 +81,9 @@ request-clock (Some r ∷ rs) [] (suc i) = request-clock rs [] i
 request-clock (Some r ∷ rs) (c ∷ cs) (suc i) = request-clock rs cs i
 
 -- ---- reads
-reserved-made : (v : Reservation) → is_some (reservation_of v) ≡ v.made
-reserved-made v = go v.made
-  where
-    go : (b : Bool) → is_some (cond b (Some v.slot) None) ≡ b
-    go true = refl
-    go false = refl
-
-pub available-read : (s : BatchSemaphore) (n : ℕ) → n ≡ cond s.head.reservation.made 0 s.head.stock → (w : Words) → n ≡ available (view_of s w)
+pub available-read : (s : BatchSemaphore) (n : ℕ) → n ≡ cond (is_some s.head.reservation) 0 s.head.stock → (w : Words) → n ≡ available (view_of s w)
 unfolding whole
-available-read s n e w = e ∙ sym (rw (reserved-made s.head.reservation))
+available-read s n e w = e
 
 -- tasks past those that have words are as where no task stands
 tasks_worded : (n i : ℕ) (xs : List ℕ) → length xs ≡ max_tasks * task_words → get_or (tasks_of (min n max_tasks) xs) i P.no_task ≡ get_or (tasks_of n xs) i P.no_task

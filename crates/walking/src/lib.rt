@@ -8,7 +8,7 @@ ghost use Rattle.walking.specs.Coming.{StartedBy, Begins, Comes};
 
 use batches::Batches;
 use head::Head;
-use queue::{Reservation, Waiters};
+use queue::Waiters;
 use reading::FirstLine;
 use replies::Reply;
 use rules::Fairness;
@@ -45,13 +45,12 @@ pub struct Walked {
 fn no_state() -> BatchSemaphore {
     let fairness = Fairness::StrictlyFair;
     let waiters = Waiters::new();
-    let reservation = Reservation::none();
     let head = Head {
         fairness,
         closed: true,
         stock: 0,
         waiters,
-        reservation,
+        reservation: None,
         tasks: 0,
     };
     let batches = Batches::const_new();

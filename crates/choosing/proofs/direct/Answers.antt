@@ -1,19 +1,20 @@
 -- Closed, reserved, too few, then who may pass.
-use Rattle.choosing.proofs.Looking.{direct_shut, direct-reserved, direct-short, direct-take, direct-behind}
-use borrow.Author.Rules.{rules}
+use native.Mathlib.Omega.{arith}
+use Rattle.std.proofs.lemmas.Grind.{common_steps}
+use Rattle.splitting.specs.Who.{direct}
+use Rattle.queue.specs.View.{waiters_of}
+use Rattle.head.specs.View.{plain_of}
+use Rattle.choosing.proofs.Looking.{every_of}
 use Rattle.choosing.proofs.direct.Goals as goal
 
 pub returns-then-h : goal.returns-then-h
-returns-then-h c = search (direct_shut, rules)
-
-pub returns-then-h-2 : goal.returns-then-h-2
-returns-then-h-2 c = search (direct-reserved, rules)
-
-pub returns-then-h-num_permits : goal.returns-then-h-num_permits
-returns-then-h-num_permits c = search (direct-short, rules)
+unfolding direct
+returns-then-h c = grind (arith, common_steps)
 
 pub returns-then-may_pass : goal.returns-then-may_pass
-returns-then-may_pass c = search (direct-take, rules)
+unfolding direct
+returns-then-may_pass c = λ ts. grind (arith, common_steps, every_of (waiters_of c.args.h.waiters) (plain_of c.args.h c.args.slots.now ts))
 
 pub returns : goal.returns
-returns c = search (direct-behind, rules)
+unfolding direct
+returns c = λ ts. grind (arith, common_steps, every_of (waiters_of c.args.h.waiters) (plain_of c.args.h c.args.slots.now ts))

@@ -1,5 +1,5 @@
 -- One answer for each choice.
-use Rattle.doing.proofs.Every.{asks-poll, poll-moves, asks_try, asks-release, asks-drop, does-poll, does_try, does-release, does-drop, does-close, never}
+use Rattle.doing.proofs.Every.{asks-poll, poll-moves, asks_try, asks-release, asks-drop, does-poll, does_try, does-release, does-drop, does-close}
 use borrow.Author.Rules.{rules}
 use Rattle.doing.proofs.effect.Goals as goal
 
@@ -15,9 +15,6 @@ release-requires c = search (asks-release, rules)
 pub drop_request-requires : goal.drop_request-requires
 drop_request-requires c = search (asks-drop, rules)
 
-pub returns-in-Makes : goal.returns-in-Makes
-returns-in-Makes c = search (never, rules)
-
 pub returns-in-Polls : goal.returns-in-Polls
 returns-in-Polls c = search (does-poll, rules)
 
@@ -32,9 +29,3 @@ returns-in-Drops c = search (does-drop, rules)
 
 pub returns-in-Closes : goal.returns-in-Closes
 returns-in-Closes c = search (does-close, rules)
-
-pub returns-in-Sleeps : goal.returns-in-Sleeps
-returns-in-Sleeps c = search (never, rules)
-
-pub returns-in-Finishes : goal.returns-in-Finishes
-returns-in-Finishes c = search (never, rules)

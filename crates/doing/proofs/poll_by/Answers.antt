@@ -1,5 +1,5 @@
 -- One answer for each decision.
-use Rattle.doing.proofs.Decided.{poll-place, poll-enough, polls_resting, polls_back, polls_front, polls_reserved, polls_taking, polls_reserving}
+use Rattle.doing.proofs.Decided.{poll-place, poll-enough, polls_back, polls_front, polls_reserved, polls_taking, polls_reserving}
 use borrow.Author.Rules.{rules}
 use Rattle.doing.proofs.poll_by.Goals as goal
 
@@ -14,15 +14,6 @@ take_reserved-requires c = search (poll-enough, rules)
 
 pub take_and_leave-requires : goal.take_and_leave-requires
 take_and_leave-requires c = search (poll-enough, rules)
-
-pub returns-in-Holds : goal.returns-in-Holds
-returns-in-Holds c = search (polls_resting, rules)
-
-pub returns-in-IsClosed : goal.returns-in-IsClosed
-returns-in-IsClosed c = search (polls_resting, rules)
-
-pub returns-in-Stays : goal.returns-in-Stays
-returns-in-Stays c = search (polls_resting, rules)
 
 pub returns-in-QueuesBack : goal.returns-in-QueuesBack
 returns-in-QueuesBack c = search (polls_back, rules)

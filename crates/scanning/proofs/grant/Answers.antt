@@ -3,8 +3,8 @@ use Rattle.scanning.proofs.Stored.{place-within, granted_so}
 use borrow.Author.Rules.{rules}
 use Rattle.scanning.proofs.grant.Goals as goal
 
-pub remove_at-left-requires : goal.remove_at-left-requires
-remove_at-left-requires c = search (place-within, rules)
+pub remove_at-out-requires : goal.remove_at-out-requires
+remove_at-out-requires c = search (place-within, rules)
 
 pub returns : goal.returns
 returns c = search (granted_so, rules)

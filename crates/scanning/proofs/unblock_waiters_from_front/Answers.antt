@@ -2,8 +2,8 @@ use borrow.Author.Rules.{rules}
 use Rattle.scanning.proofs.Scanning.{scanning, turn-within, scan_over, standing, grants-room, fitting, after-leaves, shorter_leaves, after-fits, shorter_fits, after-passes, scan-ends}
 use Rattle.scanning.proofs.unblock_waiters_from_front.Goals as goal
 
-pub walk-init : goal.walk-init
-walk-init c = search (scanning, rules)
+pub loop-i-init : goal.loop-i-init
+loop-i-init c = search (scanning, rules)
 
 pub at-x-requires : goal.at-x-requires
 at-x-requires c = search (turn-within, rules)
@@ -11,13 +11,13 @@ at-x-requires c = search (turn-within, rules)
 pub leave_at-now-requires : goal.leave_at-now-requires
 leave_at-now-requires c = search (standing, rules)
 
-pub walk-smaller-in-Leaves : goal.walk-smaller-in-Leaves
-walk-smaller-in-Leaves c = search (shorter_leaves, rules)
+pub loop-i-smaller-in-Leaves : goal.loop-i-smaller-in-Leaves
+loop-i-smaller-in-Leaves c = search (shorter_leaves, rules)
 
-pub walk-preserved-in-Leaves : goal.walk-preserved-in-Leaves
-walk-preserved-in-Leaves c =
-    let w = c.walk in
-    after-leaves _ _ _ w.now w.slots w.tasks w.grants w.count w.i w.invariant _ c.queue_length.ensures c.walk-test.true _ c.at-x.ensures _ c.request_at-r.ensures _ c.judge-v.ensures c.in-Leaves.is _ _ c.leave_at-now.ensures
+pub loop-i-preserved-in-Leaves : goal.loop-i-preserved-in-Leaves
+loop-i-preserved-in-Leaves c =
+    let w = c.loop-i in
+    after-leaves _ _ _ w.now w.slots w.tasks w.grants w.count w.i w.invariant _ c.queue_length.ensures c.loop-i-test.true _ c.at-x.ensures _ c.request_at-r.ensures _ c.judge.ensures c.in-Leaves.is _ _ c.leave_at-now.ensures
 
 pub push_grant-requires : goal.push_grant-requires
 push_grant-requires c = search (grants-room, rules)
@@ -28,26 +28,26 @@ overflow_add-count c = search (grants-room, rules)
 pub grant-now-requires : goal.grant-now-requires
 grant-now-requires c = search (standing, fitting, rules)
 
-pub walk-smaller-in-Fits : goal.walk-smaller-in-Fits
-walk-smaller-in-Fits c =
-    let w = c.walk in
-    shorter_fits _ _ _ w.now w.slots w.tasks w.grants w.count w.i w.invariant _ c.queue_length.ensures c.walk-test.true _ c.at-x.ensures _ c.request_at-r.ensures _ c.judge-v.ensures _ _ _ c.grant-now.ensures
+pub loop-i-smaller-in-Fits : goal.loop-i-smaller-in-Fits
+loop-i-smaller-in-Fits c =
+    let w = c.loop-i in
+    shorter_fits _ _ _ w.now w.slots w.tasks w.grants w.count w.i w.invariant _ c.queue_length.ensures c.loop-i-test.true _ c.at-x.ensures _ c.request_at-r.ensures _ c.judge.ensures _ _ _ c.grant-now.ensures
 
-pub walk-preserved-in-Fits : goal.walk-preserved-in-Fits
-walk-preserved-in-Fits c =
-    let w = c.walk in
-    after-fits _ _ _ w.now w.slots w.tasks w.grants w.count w.i w.invariant _ c.queue_length.ensures c.walk-test.true _ c.at-x.ensures _ c.request_at-r.ensures _ c.judge-v.ensures c.in-Fits.is _ c.push_grant.auto.grants c.push_grant.ensures _ _ _ c.grant-now.ensures
+pub loop-i-preserved-in-Fits : goal.loop-i-preserved-in-Fits
+loop-i-preserved-in-Fits c =
+    let w = c.loop-i in
+    after-fits _ _ _ w.now w.slots w.tasks w.grants w.count w.i w.invariant _ c.queue_length.ensures c.loop-i-test.true _ c.at-x.ensures _ c.request_at-r.ensures _ c.judge.ensures c.in-Fits.is _ c.push_grant.auto.grants c.push_grant.ensures _ _ _ c.grant-now.ensures
 
 pub overflow_add-i : goal.overflow_add-i
 overflow_add-i c = search (turn-within, rules)
 
-pub walk-preserved : goal.walk-preserved
-walk-preserved c =
-    let w = c.walk in
-    after-passes _ _ _ w.now w.slots w.tasks w.grants w.count w.i w.invariant _ c.queue_length.ensures c.walk-test.true _ c.at-x.ensures _ c.request_at-r.ensures _ c.judge-v.ensures c.in-Passed.is
+pub loop-i-preserved : goal.loop-i-preserved
+loop-i-preserved c =
+    let w = c.loop-i in
+    after-passes _ _ _ w.now w.slots w.tasks w.grants w.count w.i w.invariant _ c.queue_length.ensures c.loop-i-test.true _ c.at-x.ensures _ c.request_at-r.ensures _ c.judge.ensures c.in-Passed.is
 
-pub returns-after-walk : goal.returns-after-walk
-returns-after-walk c = search (scan_over, rules)
+pub returns-after-loop-i : goal.returns-after-loop-i
+returns-after-loop-i c = search (scan_over, rules)
 
 pub returns-in-Ends : goal.returns-in-Ends
 returns-in-Ends c = search (scan-ends, rules)

@@ -1,25 +1,15 @@
-use mathlib.Core.Path.{◌≡◌, ◌∙◌}
+-- By whether it stands there.
 use native.Mathlib.Omega.{arith}
-use lib.ListN.{length}
+use mathlib.Core.Path.{◌∙◌}
+use mathlib.Core.Path.{sym}
 use Rattle.queue.specs.View.{waiters_of}
-use Rattle.rules.proofs.Places.{unmap}
-use Rattle.queue.proofs.Lists.{waiters-length, removed, absent}
-use borrow.Author.Rules.{rules}
+use Rattle.queue.proofs.Lists.{removed, absent}
 use Rattle.queue.proofs.Waiters.remove.Goals as goal
 
-pub returns-then-i-self : goal.returns-then-i-self
-returns-then-i-self c =
-    let w = c.args.self in
-    let x = c.args.x in
-    let n : length w.slots ≡ 32 = search (rules, unmap) in
-    let e = c.position-i.ensures in
+pub returns-in-Some : goal.returns-in-Some
+returns-in-Some c =
     let h = c.remove_at.ensures in
-    record { fits = h.fits; view = h.view ∙ rw e (removed x (waiters_of w) (omega (arith, waiters-length w n (omega arith)))) }
+    record { fits = h.fits; view = h.view ∙ (removed c.args.x (waiters_of c.args.self) c.in-Some.i (sym c.position.ensures ∙ c.in-Some.is)).1 }
 
-pub returns : goal.returns
-returns c =
-    let w = c.args.self in
-    let x = c.args.x in
-    let n : length w.slots ≡ 32 = search (rules, unmap) in
-    let e = c.position-i.ensures in
-    record { fits = search rules; view = absent x (waiters_of w) (omega (arith, waiters-length w n (omega arith))) }
+pub returns-in-None : goal.returns-in-None
+returns-in-None c = record { fits = omega arith; view = absent c.args.x (waiters_of c.args.self) (sym c.position.ensures ∙ c.in-None.is) }
