@@ -7,10 +7,10 @@ use native.Mathlib.Omega.{arith}
 use mathlib.Core.Path.{◌≡◌, refl, sym, ap, ◌∙◌}
 use mathlib.Core.Bool.{Bool, true, false, not, ◌||◌}
 use mathlib.Core.List.{List}
-use borrow.Author.Tests.{ltb-false, le-ltb, lt-leb, not-false}
+use borrow.Author.Tests.{ltb-false, le-ltb, not-false}
 use lib.Dec.{ltb}
 use lib.ListN.{length, length-map, get_or-eq_default}
-use Rattle.rules.specs.Sizes.{max_tasks, slot_count, batch_count, width}
+use Rattle.rules.specs.Sizes.{max_tasks, slot_count, width}
 use Rattle.rules.specs.Clock.{Clock}
 use Rattle.rules.specs.State.{Permits}
 use Rattle.rules.specs.Broken.{any_of, broken}

@@ -4,7 +4,7 @@
 #![tactic(auto)]
 
 ghost use Rattle.std.specs.Prelude.{◌≡◌, Bool, true, false, ◌&&◌, List, ℕ, ◌+◌, ◌*◌, ◌≤◌, ◌<◌, leb, ltb, length, get_or, set};
-ghost use Rattle.rules.specs.Sizes.{batch_count, width, max_tasks, slot_count, largest};
+ghost use Rattle.rules.specs.Sizes.{width, max_tasks, slot_count, largest};
 ghost use Rattle.rules.specs.Clock.{join, tick};
 ghost use Rattle.rules.specs.Refusals.{full};
 ghost use Rattle.replies.specs.Answers.{given, answer_of};
@@ -27,9 +27,10 @@ pub const TASKS: usize = 16;
 pub const SLOTS: usize = 32;
 
 // ---- one array of clocks
+// No array types: a call may be lent words of any length, and 14 answers for those of another (`other_lengths`).
 // The clock numbered i of n; the empty clock past them.
 pub fn clock_in(flat: &[u32], n: usize, i: usize) -> VectorClock
-    requires { (n ≤ batch_count) × (length flat.now ≡ n * width) }
+    requires { length flat.now ≡ n * width }
     ensures { result.0 ≡ clock_in n flat.now i }
 {
     if n <= i {
@@ -40,7 +41,7 @@ pub fn clock_in(flat: &[u32], n: usize, i: usize) -> VectorClock
 
 // The clock numbered i of n is set; past them nothing is.
 pub fn put_clock(flat: &mut [u32], n: usize, i: usize, clock: VectorClock)
-    requires { (n ≤ batch_count) × (length flat.old ≡ n * width) }
+    requires { length flat.old ≡ n * width }
     ensures { clocks_at n flat.new ≡ set (clocks_at n flat.old) i clock.0 }
 {
     if n <= i {

@@ -15,7 +15,7 @@ ghost use Rattle.words.specs.View.{state_of, state_word, kind_of, kind_word, mar
 use records::{Marking, Request, Task};
 use rules::{Ask, Priority, Slot, TaskState};
 
-// A grant as it stands in its words: who took is a slot below 256, or a try.
+// A grant as it stands in its words (`grant_words_in`), so who took is a number: a slot below 256, or a try.
 #[derive(Clone, Copy)]
 pub struct GrantWords {
     pub taker: u32,
@@ -128,7 +128,7 @@ pub fn free(slots: &mut [u32], x: Slot)
     put_request(slots, x.0 as usize, Request::none());
 }
 
-// The lowest slot that is free; 32 where none is.
+// The lowest slot that is free; 32 where none is, as the rules' `lowest_free` counts.
 pub fn lowest_free(slots: &[u32]) -> usize
     requires { length slots.now ≡ slot_count * request_words }
     ensures { result ≡ lowest_free (slots_of slots.now) }
