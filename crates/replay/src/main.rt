@@ -9,20 +9,17 @@ mod walk;
 
 use std::io::Result;
 
-// The first letter of the first argument; 0 where there is none.
-fn word(rt: &HostRuntime) -> u8 {
+// The first letter of the first argument, if there is one.
+fn word(rt: &HostRuntime) -> Option<u8> {
     let mut name = [0u8; 4096];
     let k = filling::arg(rt, 1, &mut name);
-    if k == 0 {
-        return 0;
-    }
-    name[0]
+    name[..k].first().copied()
 }
 
 fn main(rt: HostRuntime) -> Result<()> {
     match word(&rt) {
-        b'o' => states::run_one(&rt),
-        b'm' => states::run_many(&rt),
+        Some(b'o') => states::run_one(&rt),
+        Some(b'm') => states::run_many(&rt),
         _ => sample::run(&rt),
     }
 }

@@ -1,5 +1,5 @@
 // A script walked line by line: for each line what it prints, and behind an accepted one the whole state.
-use crate::bytes;
+use crate::bytes::part;
 use arrays::{Arrays, Came};
 use printing::bit;
 use replies::Reply;
@@ -29,12 +29,8 @@ struct Opened {
 // How many questions about points a step has.
 fn asked(act: Act) -> usize {
     match act {
-        Act::Poll(_) => 1,
-        Act::Try(_) => 1,
-        Act::TryUpgrade { held: _, wanted: _ } => 1,
-        Act::Release(_) => 1,
+        Act::Poll(_) | Act::Try(_) | Act::TryUpgrade { .. } | Act::Release(_) | Act::Close => 1,
         Act::Drop(_) => 2,
-        Act::Close => 1,
         _ => 0,
     }
 }
@@ -88,7 +84,7 @@ fn emptied(rt: &impl Print, buf: &[u8], at: usize, limit: usize) -> Result<usize
     if at < limit {
         return Ok(at);
     }
-    bytes::write(rt, bytes::part(buf, 0, at))?;
+    rt.write_all(part(buf, 0, at))?;
     Ok(0)
 }
 
@@ -183,5 +179,5 @@ pub fn run(rt: &impl Print, script: &[u8], buf: &mut [u8], limit: usize) -> Resu
 pub fn print(rt: &impl Print, script: &[u8]) -> Result<()> {
     let mut buf = [0u8; ROOM];
     let end = run(rt, script, &mut buf, 65536)?;
-    bytes::write(rt, bytes::part(&buf, 0, end))
+    rt.write_all(part(&buf, 0, end))
 }
