@@ -1,6 +1,5 @@
-// The calls with all words by value, for what need not be quick. What tries wrong answers against their contracts is checked many times,
-// and a function that is lent eight arrays takes several seconds to check, where one that has them by value takes half of one; and what
-// writes our side of the comparison is the shorter for it.
+// The calls with all words by value, for what need not be quick: what tries wrong answers against their contracts is checked many times, and
+// is checked the sooner for it; and what writes our side of the comparison is the shorter.
 #![tactic(auto)]
 
 ghost use Rattle.std.specs.Prelude.{◌≡◌, None, Some};
@@ -13,9 +12,9 @@ ghost use Rattle.arrays.specs.Arrays.{words_in, Owes};
 use fresh::Started;
 use replies::Refusal;
 use rules::{Act, Fairness, Question, Step, TaskId};
-use state::{BatchSemaphore, Stepped};
+use state::{BatchSemaphore, LentWords, Stepped};
 
-// All that a call is lent, in its order.
+// All that a call is lent.
 #[derive(Clone, Copy)]
 pub struct Arrays {
     pub slots: [u32; 320],
@@ -45,36 +44,18 @@ pub struct StartedArrays {
 pub fn step(s: BatchSemaphore, w: Arrays, a: Step) -> Came
     ensures { Owes s w a result }
 {
-    let mut slots = w.slots;
-    let mut tasks = w.tasks;
-    let mut sizes = w.sizes;
-    let mut rows = w.rows;
-    let mut last = w.last;
-    let mut makers = w.makers;
-    let mut clocks = w.clocks;
-    let mut grants = w.grants;
-    let stepped = semaphore::step(
-        s,
-        &mut slots,
-        &mut tasks,
-        &mut sizes,
-        &mut rows,
-        &mut last,
-        &mut makers,
-        &mut clocks,
-        &mut grants,
-        a,
-    );
-    let arrays = Arrays {
-        slots,
-        tasks,
-        sizes,
-        rows,
-        last,
-        makers,
-        clocks,
-        grants,
+    let mut arrays = w;
+    let mut lent = LentWords {
+        slots: &mut arrays.slots,
+        tasks: &mut arrays.tasks,
+        sizes: &mut arrays.sizes,
+        rows: &mut arrays.rows,
+        last: &mut arrays.last,
+        makers: &mut arrays.makers,
+        clocks: &mut arrays.clocks,
+        grants: &mut arrays.grants,
     };
+    let stepped = semaphore::step(s, &mut lent, a);
     Came { stepped, arrays }
 }
 
@@ -88,17 +69,18 @@ pub fn act(s: BatchSemaphore, w: Arrays, me: TaskId, act: Act) -> Came
 pub fn point(s: BatchSemaphore, w: Arrays, me: TaskId, q: Question) -> Result<bool, Refusal>
     ensures { told_by result ≡ answer_to s (words_in w) w.grants me q }
 {
-    let slots = w.slots;
-    let tasks = w.tasks;
-    let sizes = w.sizes;
-    let rows = w.rows;
-    let last = w.last;
-    let makers = w.makers;
-    let clocks = w.clocks;
-    let grants = w.grants;
-    points::point(
-        s, &slots, &tasks, &sizes, &rows, &last, &makers, &clocks, &grants, me, q,
-    )
+    let mut arrays = w;
+    let lent = LentWords {
+        slots: &mut arrays.slots,
+        tasks: &mut arrays.tasks,
+        sizes: &mut arrays.sizes,
+        rows: &mut arrays.rows,
+        last: &mut arrays.last,
+        makers: &mut arrays.makers,
+        clocks: &mut arrays.clocks,
+        grants: &mut arrays.grants,
+    };
+    points::point(s, &lent, me, q)
 }
 
 // A fresh state that a task makes.

@@ -9,14 +9,14 @@ ghost use Rattle.queue.specs.View.{waiters_of};
 ghost use Rattle.records.specs.View.{request_of};
 ghost use Rattle.words.specs.View.{request_words, task_words, slots_of};
 ghost use Rattle.broken.specs.Weights.{words_at, ask_wrong, named_wrong, other_wrong, request_wrong, weights, weight_of, sum_from, Marks, Weighs, heaviest, broken_slots};
-ghost use Rattle.state.specs.View.{words};
+ghost use Rattle.state.specs.View.{words_of};
 ghost use Rattle.broken.specs.Broken.{other_lengths, stray_tasks, misreserved, broken_who, Judged};
 
 use head::Head;
 use queue::Waiters;
 use records::Request;
 use rules::Slot;
-use state::BatchSemaphore;
+use state::{BatchSemaphore, LentWords};
 
 // ---- a slot's words, from b on: used, asked, least, kind, reserving, task, queued, holding, completed, polled
 // A kind or a mark that stands for nothing, or an ask that 6 or 7 would have refused.
@@ -203,43 +203,24 @@ fn who_is_broken(h: Head, slots: &[u32], tasks: &[u32]) -> bool
 }
 
 // A lent array of another length.
-fn lengths_differ(
-    slots: &[u32],
-    tasks: &[u32],
-    sizes: &[u32],
-    rows: &[u32],
-    last: &[u32],
-    makers: &[u32],
-    clocks: &[u32],
-    grants: &[u32],
-) -> bool
-    ensures { result ≡ other_lengths (words slots.now tasks.now sizes.now rows.now last.now makers.now clocks.now) grants.now }
+fn lengths_differ(w: &LentWords) -> bool
+    ensures { result ≡ other_lengths (words_of w.now) w.now.grants.now }
 {
-    slots.len() != 320
-        || tasks.len() != 32
-        || sizes.len() != 64
-        || rows.len() != 1024
-        || last.len() != 16
-        || makers.len() != 512
-        || clocks.len() != 256
-        || grants.len() != 96
+    w.slots.len() != 320
+        || w.tasks.len() != 32
+        || w.sizes.len() != 64
+        || w.rows.len() != 1024
+        || w.last.len() != 16
+        || w.makers.len() != 512
+        || w.clocks.len() != 256
+        || w.grants.len() != 96
 }
 
 // Whether what is handed in is broken.
-pub fn is_broken(
-    s: BatchSemaphore,
-    slots: &[u32],
-    tasks: &[u32],
-    sizes: &[u32],
-    rows: &[u32],
-    last: &[u32],
-    makers: &[u32],
-    clocks: &[u32],
-    grants: &[u32],
-) -> bool
-    ensures { Judged s (words slots.now tasks.now sizes.now rows.now last.now makers.now clocks.now) grants.now result }
+pub fn is_broken(s: BatchSemaphore, w: &LentWords) -> bool
+    ensures { Judged s (words_of w.now) w.now.grants.now result }
 {
-    lengths_differ(slots, tasks, sizes, rows, last, makers, clocks, grants)
-        || s.batches.is_broken(sizes, s.head.stock)
-        || who_is_broken(s.head, slots, tasks)
+    lengths_differ(w)
+        || s.batches.is_broken(w.sizes, s.head.stock)
+        || who_is_broken(s.head, w.slots, w.tasks)
 }

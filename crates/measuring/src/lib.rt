@@ -4,12 +4,12 @@
 #![tactic(auto)]
 
 ghost use Rattle.std.specs.Prelude.{◌+◌, ◌<◌, ◌≤◌, length};
-ghost use Rattle.state.specs.View.{words, Fit};
+ghost use Rattle.state.specs.View.{words_of, Fit};
 
 use replies::Reply;
 use rules::{Act, Fairness, Slot, Step, TaskId};
 use script::First;
-use state::BatchSemaphore;
+use state::{BatchSemaphore, LentWords};
 use std::io;
 use std::io::Input;
 
@@ -112,19 +112,8 @@ fn sum_on(sum: u64, r: Reply) -> u64 {
 }
 
 // The sum of the steps in the records behind the first, where 14 is not tested again.
-fn run_steps(
-    src: &[u8],
-    start: BatchSemaphore,
-    slots: &mut [u32; 320],
-    tasks: &mut [u32; 32],
-    sizes: &mut [u32; 64],
-    rows: &mut [u32; 1024],
-    last: &mut [u32; 16],
-    makers: &mut [u32; 512],
-    clocks: &mut [u32; 256],
-    grants: &mut [u32; 96],
-) -> u64
-    requires { (length src.now ≤ 1048576) × Fit start (words slots.old tasks.old sizes.old rows.old last.old makers.old clocks.old) grants.old }
+fn run_steps(src: &[u8], start: BatchSemaphore, w: &mut LentWords) -> u64
+    requires { (length src.now ≤ 1048576) × Fit start (words_of w.old) w.old.grants.now }
 {
     let mut s = start;
     let mut sum: u64 = 0;
@@ -132,9 +121,7 @@ fn run_steps(
     while at + RECORD <= src.len() {
         let a = step_at(src, at);
         at += RECORD;
-        let r = stepping::step_on(
-            s, slots, tasks, sizes, rows, last, makers, clocks, grants, a,
-        );
+        let r = stepping::step_on(s, w, a);
         let reply = r.reply;
         sum = sum_on(sum, reply);
         let state = r.state;
@@ -144,18 +131,7 @@ fn run_steps(
 }
 
 // The same by public calls.
-fn run_calls(
-    src: &[u8],
-    start: BatchSemaphore,
-    slots: &mut [u32; 320],
-    tasks: &mut [u32; 32],
-    sizes: &mut [u32; 64],
-    rows: &mut [u32; 1024],
-    last: &mut [u32; 16],
-    makers: &mut [u32; 512],
-    clocks: &mut [u32; 256],
-    grants: &mut [u32; 96],
-) -> u64
+fn run_calls(src: &[u8], start: BatchSemaphore, w: &mut LentWords) -> u64
     requires { length src.now ≤ 1048576 }
 {
     let mut s = start;
@@ -164,9 +140,7 @@ fn run_calls(
     while at + RECORD <= src.len() {
         let a = step_at(src, at);
         at += RECORD;
-        let r = semaphore::step(
-            s, slots, tasks, sizes, rows, last, makers, clocks, grants, a,
-        );
+        let r = semaphore::step(s, w, a);
         let reply = r.reply;
         sum = sum_on(sum, reply);
         let state = r.state;
@@ -197,32 +171,20 @@ fn run(src: &[u8], by_calls: bool) -> u64
         &mut makers,
         &mut clocks,
     );
+    let mut w = LentWords {
+        slots: &mut slots,
+        tasks: &mut tasks,
+        sizes: &mut sizes,
+        rows: &mut rows,
+        last: &mut last,
+        makers: &mut makers,
+        clocks: &mut clocks,
+        grants: &mut grants,
+    };
     if by_calls {
-        return run_calls(
-            src,
-            r.state,
-            &mut slots,
-            &mut tasks,
-            &mut sizes,
-            &mut rows,
-            &mut last,
-            &mut makers,
-            &mut clocks,
-            &mut grants,
-        );
+        return run_calls(src, r.state, &mut w);
     }
-    run_steps(
-        src,
-        r.state,
-        &mut slots,
-        &mut tasks,
-        &mut sizes,
-        &mut rows,
-        &mut last,
-        &mut makers,
-        &mut clocks,
-        &mut grants,
-    )
+    run_steps(src, r.state, &mut w)
 }
 
 fn input() -> [u8; INPUT] {

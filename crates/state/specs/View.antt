@@ -16,9 +16,10 @@ use Rattle.head.specs.View.{plain_of, Shaped}
 use Rattle.batches.specs.View.{Lent, WellFormed}
 use Rattle.times.specs.View.{kept_of}
 use Rattle.state.specs.declared.BatchSemaphore.{BatchSemaphore}
+use Rattle.state.specs.declared.LentWords.{LentWords}
 use Rattle.state.specs.declared.Stepped.{Stepped}
 
--- all words that the caller lends, in the order in which every call takes them
+-- all words of the state that the caller lends
 pub record Words : Type 0 where
   -- 32 requests without clocks, and 16 tasks without clocks
   pub slots : List ℕ
@@ -35,6 +36,21 @@ pub record Words : Type 0 where
 abbrev pub words : List ℕ → List ℕ → List ℕ → List ℕ → List ℕ → List ℕ → List ℕ → Words
 words slots tasks sizes rows last makers clocks =
     record { slots = slots; tasks = tasks; sizes = sizes; rows = rows; last = last; makers = makers; clocks = clocks }
+
+-- what stands in those that are lent; the grants' are no part of the state
+abbrev pub words_of : LentWords → Words
+words_of w = words w.slots.now w.tasks.now w.sizes.now w.rows.now w.last.now w.makers.now w.clocks.now
+
+-- the very arrays are lent that were
+pub record SameWords (w v : LentWords) : Type 0 where
+  pub slots : v.slots.ghost_name ≡ w.slots.ghost_name
+  pub tasks : v.tasks.ghost_name ≡ w.tasks.ghost_name
+  pub sizes : v.sizes.ghost_name ≡ w.sizes.ghost_name
+  pub rows : v.rows.ghost_name ≡ w.rows.ghost_name
+  pub last : v.last.ghost_name ≡ w.last.ghost_name
+  pub makers : v.makers.ghost_name ≡ w.makers.ghost_name
+  pub clocks : v.clocks.ghost_name ≡ w.clocks.ghost_name
+  pub grants : v.grants.ghost_name ≡ w.grants.ghost_name
 
 -- who, and when
 abbrev pub plain_in : BatchSemaphore → Words → Plain

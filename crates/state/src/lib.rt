@@ -22,6 +22,27 @@ pub struct BatchSemaphore {
     pub batches: Batches,
 }
 
+// All words that a caller lends to a call, each array by what stands in it.
+#[derive(Drop)]
+pub struct LentWords<'a> {
+    // the requests by slot, without clocks: 32 of 10 words
+    pub slots: &'a mut [u32],
+    // the tasks, without clocks: 16 of 2 words
+    pub tasks: &'a mut [u32],
+    // the sizes of the batches: 64
+    pub sizes: &'a mut [u32],
+    // the clocks of the batches: 64 of 16 words
+    pub rows: &'a mut [u32],
+    // the clock of the last taking: 16 words
+    pub last: &'a mut [u32],
+    // the clocks of the requests' makers, by slot: 32 of 16 words
+    pub makers: &'a mut [u32],
+    // the clocks of the tasks: 16 of 16 words
+    pub clocks: &'a mut [u32],
+    // room for what a step grants: 32 of 3 words
+    pub grants: &'a mut [u32],
+}
+
 // What a step answers: its reply, how many grants stand in their words, and the state.
 #[derive(Clone, Copy)]
 pub struct Stepped {

@@ -1,6 +1,5 @@
 // A step of a batch semaphore that counts on what 14 does not refuse: planned, checked, and then refused or taken, by who and then by when.
-// The struct goes by value; the words are lent, always in the same order: the requests by slot, the tasks, the sizes and the clocks of the
-// batches, the last taking's clock, the clocks of the requests' makers, the tasks' clocks, and room for the grants.
+// The struct goes by value, the words are lent.
 #![tactic(auto)]
 
 ghost use Rattle.std.specs.Prelude.{◌≡◌, true, ◌*◌, ◌≤◌, length};
@@ -11,13 +10,13 @@ ghost use Rattle.replies.specs.Answers.{answer_of};
 ghost use Rattle.splitting.specs.Times.{timing_of};
 ghost use Rattle.times.specs.View.{AbleAtRest};
 ghost use Rattle.choosing.specs.Choice.{moves_in};
-ghost use Rattle.state.specs.View.{words, Fit};
+ghost use Rattle.state.specs.View.{words_of, Fit, SameWords};
 ghost use Rattle.stepping.specs.Contract.{Checks, Due, RestTaken, Taken, StepsOn};
 
 use planning::Plan;
 use replies::{Refusal, Reply};
 use rules::{Step, TaskId};
-use state::{BatchSemaphore, Stepped};
+use state::{BatchSemaphore, LentWords, Stepped};
 
 // A step that is refused: the very struct that came in.
 fn refuse(s: BatchSemaphore, why: Refusal) -> Stepped
@@ -67,30 +66,20 @@ fn rest(
 }
 
 // A step that moves permits, the queue or the reservation: what who does, and then when.
-fn carry_out(
-    s: BatchSemaphore,
-    slots: &mut [u32],
-    tasks: &mut [u32],
-    sizes: &mut [u32],
-    rows: &mut [u32],
-    last: &mut [u32],
-    makers: &mut [u32],
-    clocks: &mut [u32],
-    grants: &mut [u32],
-    a: Step,
-    plan: Plan,
-) -> Stepped
-    requires { (Due s (words slots.old tasks.old sizes.old rows.old last.old makers.old clocks.old) grants.old a plan) × (moves_in plan.choice ≡ true) }
-    ensures { Taken s (words slots.old tasks.old sizes.old rows.old last.old makers.old clocks.old) a result (words slots.new tasks.new sizes.new rows.new last.new makers.new clocks.new) grants.new }
+fn carry_out(s: BatchSemaphore, w: &mut LentWords, a: Step, plan: Plan) -> Stepped
+    requires { (Due s (words_of w.old) w.old.grants.now a plan) × (moves_in plan.choice ≡ true) }
+    ensures same { SameWords w.old w.new }
+    ensures taken { Taken s (words_of w.old) a result (words_of w.new) w.new.grants.now }
 {
     let head = s.head;
     let batches = s.batches;
     let choice = plan.choice;
-    let done = doing::effect(head, slots, tasks, grants, a.actor, choice);
+    let done = doing::effect(head, w.slots, w.tasks, w.grants, a.actor, choice);
     let reply = done.reply;
+    let grants = &mut *w.grants;
     let left = times::times_step(
-        batches, sizes, rows, last, makers, clocks, a, reply, head.stock, plan.back, grants,
-        done.count,
+        batches, w.sizes, w.rows, w.last, w.makers, w.clocks, a, reply, head.stock, plan.back,
+        grants, done.count,
     );
     let after = done.head;
     let state = BatchSemaphore {
@@ -105,51 +94,32 @@ fn carry_out(
 }
 
 // A step that no refusal is met by. Where it leaves the head as it is, nothing by value is put together anew.
-fn accept(
-    s: BatchSemaphore,
-    slots: &mut [u32],
-    tasks: &mut [u32],
-    sizes: &mut [u32],
-    rows: &mut [u32],
-    last: &mut [u32],
-    makers: &mut [u32],
-    clocks: &mut [u32],
-    grants: &mut [u32],
-    a: Step,
-    plan: Plan,
-) -> Stepped
-    requires { Due s (words slots.old tasks.old sizes.old rows.old last.old makers.old clocks.old) grants.old a plan }
-    ensures { Taken s (words slots.old tasks.old sizes.old rows.old last.old makers.old clocks.old) a result (words slots.new tasks.new sizes.new rows.new last.new makers.new clocks.new) grants.new }
+fn accept(s: BatchSemaphore, w: &mut LentWords, a: Step, plan: Plan) -> Stepped
+    requires { Due s (words_of w.old) w.old.grants.now a plan }
+    ensures same { SameWords w.old w.new }
+    ensures taken { Taken s (words_of w.old) a result (words_of w.new) w.new.grants.now }
 {
-    match resting::effect_at_rest(slots, tasks, s.head.tasks, a.actor, plan.choice) {
-        Some(reply) => rest(s, last, makers, clocks, a, reply),
-        None => carry_out(
-            s, slots, tasks, sizes, rows, last, makers, clocks, grants, a, plan,
-        ),
+    match resting::effect_at_rest(w.slots, w.tasks, s.head.tasks, a.actor, plan.choice) {
+        Some(reply) => {
+            let last = &mut *w.last;
+            rest(s, last, w.makers, w.clocks, a, reply)
+        }
+        None => carry_out(s, w, a, plan),
     }
 }
 
 // A step that counts on what 14 does not refuse, and gives such a state back: for whoever runs many.
-pub fn step_on(
-    s: BatchSemaphore,
-    slots: &mut [u32],
-    tasks: &mut [u32],
-    sizes: &mut [u32],
-    rows: &mut [u32],
-    last: &mut [u32],
-    makers: &mut [u32],
-    clocks: &mut [u32],
-    grants: &mut [u32],
-    a: Step,
-) -> Stepped
-    requires { Fit s (words slots.old tasks.old sizes.old rows.old last.old makers.old clocks.old) grants.old }
-    ensures { StepsOn s (words slots.old tasks.old sizes.old rows.old last.old makers.old clocks.old) grants.old a result (words slots.new tasks.new sizes.new rows.new last.new makers.new clocks.new) grants.new }
+pub fn step_on(s: BatchSemaphore, w: &mut LentWords, a: Step) -> Stepped
+    requires { Fit s (words_of w.old) w.old.grants.now }
+    ensures same { SameWords w.old w.new }
+    ensures steps { StepsOn s (words_of w.old) w.old.grants.now a result (words_of w.new) w.new.grants.now }
 {
+    let slots = &mut *w.slots;
     let plan = planning::plan_act(s.head, slots, a.act);
+    let tasks = &mut *w.tasks;
+    let clocks = &mut *w.clocks;
     match check(s, tasks, clocks, a.actor, plan) {
-        Ok(()) => accept(
-            s, slots, tasks, sizes, rows, last, makers, clocks, grants, a, plan,
-        ),
+        Ok(()) => accept(s, w, a, plan),
         Err(why) => refuse(s, why),
     }
 }

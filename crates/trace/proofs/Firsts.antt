@@ -17,7 +17,7 @@ use Rattle.text.proofs.Buffer.{appended_none, appended_then}
 use Rattle.replies.specs.declared.Reply.TheVariants.{Done}
 use Rattle.words.specs.View.{grants_of}
 use Rattle.state.specs.declared.BatchSemaphore.{BatchSemaphore}
-use Rattle.state.specs.View.{Words, words, view_of, outcome_of, ShapedAll, Fit}
+use Rattle.state.specs.View.{Words, view_of, outcome_of, Fit}
 use Rattle.walking.specs.declared.Begun.{Begun}
 use Rattle.walking.specs.declared.Beginning.TheVariants.{Fresh, Refused, Bad, Nothing}
 use Rattle.walking.specs.Coming.{Begins}
@@ -77,32 +77,6 @@ module _ {script : List ℕ} {r : Begun} {w : Words} (b : Begins script r w) whe
 
   pub whole_none : {old : List ℕ} → r.how ≡ Nothing → Appended old 0 (program (lines script)) old 0
   whole_none {old} q = rw (nothing_prints script (b.nothing q)) (appended_none old 0)
-
--- the words that a fresh state stands in are of their lengths
-module _ {script : List ℕ} {r : Begun} {slots tasks sizes rows last makers clocks : List ℕ} (b : Begins script r (words slots tasks sizes rows last makers clocks)) (q : r.how ≡ Fresh) where
-  shaped : ShapedAll r.state (words slots tasks sizes rows last makers clocks)
-  shaped = (b.fresh q).begins.shaped
-
-  pub slots-there : 320 ≡ length slots
-  slots-there = sym shaped.head.slot-words
-
-  pub tasks-there : 32 ≡ length tasks
-  tasks-there = sym shaped.head.task-words
-
-  pub sizes-there : 64 ≡ length sizes
-  sizes-there = sym shaped.ring.places
-
-  pub rows-there : 1024 ≡ length rows
-  rows-there = sym shaped.ring.entries
-
-  pub last-there : 16 ≡ length last
-  last-there = sym shaped.latest
-
-  pub makers-there : 512 ≡ length makers
-  makers-there = sym shaped.makers
-
-  pub clocks-there : 256 ≡ length clocks
-  clocks-there = sym shaped.clocks
 
 -- More than 65,536 bytes print only `long`.
 module _ (script old : List ℕ) where

@@ -5,13 +5,13 @@ ghost use Rattle.std.specs.Prelude.{◌≡◌, ◌++◌, ◌+◌, ◌*◌, ◌�
 ghost use Rattle.rules.specs.Sizes.{slot_count};
 ghost use Rattle.rules.specs.Text.{lines};
 ghost use Rattle.rules.specs.Script.{outcome_text, trace as traced, program, printed};
-ghost use Rattle.state.specs.View.{Words, words, view_of, outcome_of, Fit};
+ghost use Rattle.state.specs.View.{Words, words_of, view_of, outcome_of, Fit};
 ghost use Rattle.walking.specs.Coming.{text_of, came};
 ghost use Rattle.text.specs.Writing.{Appended};
 ghost use Rattle.trace.specs.Running.{first_of, Prints};
 
 use replies::Reply;
-use state::{BatchSemaphore, Stepped};
+use state::{BatchSemaphore, LentWords, Stepped};
 use walking::{Beginning, Walked};
 
 // The most bytes that a script may have, and one more, which tells that it is too long.
@@ -54,25 +54,17 @@ fn run_lines(
     out: &mut [u8],
     start: usize,
     first: BatchSemaphore,
-    slots: &mut [u32],
-    tasks: &mut [u32],
-    sizes: &mut [u32],
-    rows: &mut [u32],
-    last: &mut [u32],
-    makers: &mut [u32],
-    clocks: &mut [u32],
-    grants: &mut [u32],
+    w: &mut LentWords,
 ) -> usize
-    requires { (start + length (traced (view_of first (words slots.old tasks.old sizes.old rows.old last.old makers.old clocks.old)) (lines (drop from script.now))) ≤ length out.old) × Fit first (words slots.old tasks.old sizes.old rows.old last.old makers.old clocks.old) grants.old }
-    ensures { Appended out.old start (traced (view_of first (words slots.old tasks.old sizes.old rows.old last.old makers.old clocks.old)) (lines (drop from script.now))) out.new result }
+    requires { (start + length (traced (view_of first (words_of w.old)) (lines (drop from script.now))) ≤ length out.old) × Fit first (words_of w.old) w.old.grants.now }
+    ensures { Appended out.old start (traced (view_of first (words_of w.old)) (lines (drop from script.now))) out.new result }
 {
     let mut at = from;
     let mut s = first;
     let mut n = start;
     while at < script.len() {
-        let r = walking::walk(
-            script, at, s, slots, tasks, sizes, rows, last, makers, clocks, grants,
-        );
+        let r = walking::walk(script, at, s, w);
+        let grants = &mut *w.grants;
         n = print_walked(out, n, r, grants);
         let state = r.out.state;
         s = state;
@@ -87,27 +79,19 @@ fn run_fresh(
     from: usize,
     out: &mut [u8],
     s: BatchSemaphore,
-    slots: &mut [u32],
-    tasks: &mut [u32],
-    sizes: &mut [u32],
-    rows: &mut [u32],
-    last: &mut [u32],
-    makers: &mut [u32],
-    clocks: &mut [u32],
-    grants: &mut [u32],
+    w: &mut LentWords,
 ) -> usize
-    requires { (length (first_of (view_of s (words slots.old tasks.old sizes.old rows.old last.old makers.old clocks.old)) ++ traced (view_of s (words slots.old tasks.old sizes.old rows.old last.old makers.old clocks.old)) (lines (drop from script.now))) ≤ length out.old) × Fit s (words slots.old tasks.old sizes.old rows.old last.old makers.old clocks.old) grants.old }
-    ensures { Appended out.old 0 (first_of (view_of s (words slots.old tasks.old sizes.old rows.old last.old makers.old clocks.old)) ++ traced (view_of s (words slots.old tasks.old sizes.old rows.old last.old makers.old clocks.old)) (lines (drop from script.now))) out.new result }
+    requires { (length (first_of (view_of s (words_of w.old)) ++ traced (view_of s (words_of w.old)) (lines (drop from script.now))) ≤ length out.old) × Fit s (words_of w.old) w.old.grants.now }
+    ensures { Appended out.old 0 (first_of (view_of s (words_of w.old)) ++ traced (view_of s (words_of w.old)) (lines (drop from script.now))) out.new result }
 {
     let first = Stepped {
         reply: Reply::Done,
         count: 0,
         state: s,
     };
+    let grants = &mut *w.grants;
     let n = print_step(out, 0, first, grants);
-    run_lines(
-        script, from, out, n, s, slots, tasks, sizes, rows, last, makers, clocks, grants,
-    )
+    run_lines(script, from, out, n, s, w)
 }
 
 // A script of any length that fits: here the state's arrays are made.
@@ -135,20 +119,19 @@ fn run_whole(script: &[u8], out: &mut [u8]) -> usize
     );
     let how = r.how;
     match how {
-        Beginning::Fresh => run_fresh(
-            script,
-            r.next,
-            out,
-            r.state,
-            &mut slots,
-            &mut tasks,
-            &mut sizes,
-            &mut rows,
-            &mut last,
-            &mut makers,
-            &mut clocks,
-            &mut grants,
-        ),
+        Beginning::Fresh => {
+            let mut w = LentWords {
+                slots: &mut slots,
+                tasks: &mut tasks,
+                sizes: &mut sizes,
+                rows: &mut rows,
+                last: &mut last,
+                makers: &mut makers,
+                clocks: &mut clocks,
+                grants: &mut grants,
+            };
+            run_fresh(script, r.next, out, r.state, &mut w)
+        }
         Beginning::Refused => text::put(out, 0, b"r12\n"),
         Beginning::Bad => text::put(out, 0, b"bad\n"),
         Beginning::Nothing => 0,

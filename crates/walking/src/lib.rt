@@ -3,7 +3,7 @@
 #![tactic(auto)]
 
 ghost use Rattle.std.specs.Prelude.{◌≡◌, ◌<◌, length};
-ghost use Rattle.state.specs.View.{words, view_of, Fit};
+ghost use Rattle.state.specs.View.{words, words_of, view_of, Fit, SameWords};
 ghost use Rattle.walking.specs.Coming.{StartedBy, Begins, Comes};
 
 use batches::Batches;
@@ -13,7 +13,7 @@ use reading::FirstLine;
 use replies::Reply;
 use rules::Fairness;
 use script::First;
-use state::{BatchSemaphore, Stepped};
+use state::{BatchSemaphore, LentWords, Stepped};
 
 // What the first line came to: a fresh state, refusal 12, nothing that it says, or that there is no line.
 #[derive(Clone, Copy)]
@@ -134,29 +134,16 @@ fn stay(s: BatchSemaphore) -> Stepped
 }
 
 // What the line at a place of a script comes to, on a state that 14 does not refuse.
-pub fn walk(
-    script: &[u8],
-    at: usize,
-    s: BatchSemaphore,
-    slots: &mut [u32],
-    tasks: &mut [u32],
-    sizes: &mut [u32],
-    rows: &mut [u32],
-    last: &mut [u32],
-    makers: &mut [u32],
-    clocks: &mut [u32],
-    grants: &mut [u32],
-) -> Walked
-    requires { (at < length script.now) × Fit s (words slots.old tasks.old sizes.old rows.old last.old makers.old clocks.old) grants.old }
-    ensures { Comes script.now at (view_of s (words slots.old tasks.old sizes.old rows.old last.old makers.old clocks.old)) result (words slots.new tasks.new sizes.new rows.new last.new makers.new clocks.new) grants.new }
+pub fn walk(script: &[u8], at: usize, s: BatchSemaphore, w: &mut LentWords) -> Walked
+    requires { (at < length script.now) × Fit s (words_of w.old) w.old.grants.now }
+    ensures same { SameWords w.old w.new }
+    ensures comes { Comes script.now at (view_of s (words_of w.old)) result (words_of w.new) w.new.grants.now }
 {
     let l = reading::read_line(script, at);
     let said = l.said;
     match said {
         Some(a) => {
-            let out = stepping::step_on(
-                s, slots, tasks, sizes, rows, last, makers, clocks, grants, a,
-            );
+            let out = stepping::step_on(s, w, a);
             Walked {
                 bad: false,
                 out,

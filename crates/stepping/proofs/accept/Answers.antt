@@ -1,5 +1,4 @@
 -- At rest the times alone are left to do; else the step is carried out, on words that are as they were.
-use mathlib.Core.Path.{◌∙◌}
 use Rattle.stepping.proofs.Accepted.{slot-there, may_rest, rest_taken, still-moves, still_due, still_taken}
 use Rattle.stepping.proofs.accept.Goals as goal
 
@@ -21,18 +20,10 @@ rest-requires c =
     let h = due.fit.shaped in
     (h.latest, h.makers, h.clocks, may_rest _ _ _ _ _ due _ _ _ c.effect_at_rest.ensures _ c.in-Some.is)
 
-pub shape_of-slots-in-None : goal.shape_of-slots-in-None
-shape_of-slots-in-None c =
-    c.carry_out.auto.slots ∙ c.effect_at_rest.auto.slots
+pub returns-in-None-clause-taken : goal.returns-in-None-clause-taken
+returns-in-None-clause-taken c =
+    still_taken _ _ _ _ _ c.requires _ _ _ c.effect_at_rest.ensures c.in-None.is _ _ _ c.carry_out.ensures.taken
 
-pub shape_of-tasks-in-None : goal.shape_of-tasks-in-None
-shape_of-tasks-in-None c =
-    c.carry_out.auto.tasks ∙ c.effect_at_rest.auto.tasks
-
-pub returns-in-None : goal.returns-in-None
-returns-in-None c =
-    still_taken _ _ _ _ _ c.requires _ _ _ c.effect_at_rest.ensures c.in-None.is _ _ _ c.carry_out.ensures
-
-pub returns-in-Some : goal.returns-in-Some
-returns-in-Some c =
+pub returns-in-Some-clause-taken : goal.returns-in-Some-clause-taken
+returns-in-Some-clause-taken c =
     rest_taken _ _ _ _ _ c.requires _ _ _ c.effect_at_rest.ensures _ c.in-Some.is _ _ _ c.rest.ensures c.rest.auto.makers c.rest.auto.clocks

@@ -21,6 +21,6 @@ times_step-left-requires c =
       may_time _ _ _ _ _ due _ _ _ _ c.effect-done.ensures,
     )
 
-pub returns : goal.returns
-returns c =
+pub returns-clause-taken : goal.returns-clause-taken
+returns-clause-taken c =
     taken _ _ _ _ _ c.requires.0 c.effect-done.result c.times_step-left.result _ _ c.effect-done.ensures c.times_step-left.ensures c.times_step-left.auto.sizes c.times_step-left.auto.rows c.times_step-left.auto.last c.times_step-left.auto.makers c.times_step-left.auto.clocks c.effect-done.auto.grants

@@ -16,16 +16,16 @@ accept-requires c =
     let a = c.args in
     record {
       fit = c.requires;
-      planned = c.plan_act-plan.ensures a.tasks.now;
-      unrefused = no_refusal a.s _ a.grants.now c.requires a.a _ (checked_whole a.s _ a.grants.now c.requires a.a c.check.result c.plan_act-plan.result c.check.ensures (c.plan_act-plan.ensures a.tasks.now)) c.in-Ok.is;
+      planned = c.plan_act-plan.ensures a.w.now.tasks.now;
+      unrefused = no_refusal a.s _ a.w.now.grants.now c.requires a.a _ (checked_whole a.s _ a.w.now.grants.now c.requires a.a c.check.result c.plan_act-plan.result c.check.ensures (c.plan_act-plan.ensures a.w.now.tasks.now)) c.in-Ok.is;
     }
 
-pub returns-in-Ok : goal.returns-in-Ok
-returns-in-Ok c =
+pub returns-in-Ok-clause-steps : goal.returns-in-Ok-clause-steps
+returns-in-Ok-clause-steps c =
     let a = c.args in
-    taken_steps a.s _ a.grants.now c.requires a.a _ (checked_whole a.s _ a.grants.now c.requires a.a c.check.result c.plan_act-plan.result c.check.ensures (c.plan_act-plan.ensures a.tasks.now)) c.accept.result _ _ c.in-Ok.is c.accept.ensures
+    taken_steps a.s _ a.w.now.grants.now c.requires a.a _ (checked_whole a.s _ a.w.now.grants.now c.requires a.a c.check.result c.plan_act-plan.result c.check.ensures (c.plan_act-plan.ensures a.w.now.tasks.now)) c.accept.result _ _ c.in-Ok.is c.accept.ensures.taken
 
-pub returns-in-Err : goal.returns-in-Err
-returns-in-Err c =
+pub returns-in-Err-clause-steps : goal.returns-in-Err-clause-steps
+returns-in-Err-clause-steps c =
     let a = c.args in
-    rw c.refuse.ensures (refused_steps a.s _ a.grants.now c.requires a.a _ (checked_whole a.s _ a.grants.now c.requires a.a c.check.result c.plan_act-plan.result c.check.ensures (c.plan_act-plan.ensures a.tasks.now)) _ c.in-Err.is)
+    rw c.refuse.ensures (refused_steps a.s _ a.w.now.grants.now c.requires a.a _ (checked_whole a.s _ a.w.now.grants.now c.requires a.a c.check.result c.plan_act-plan.result c.check.ensures (c.plan_act-plan.ensures a.w.now.tasks.now)) _ c.in-Err.is)

@@ -9,16 +9,16 @@ loop-at-init c = search (onward_none, rules)
 pub print_walked-n-requires : goal.print_walked-n-requires
 print_walked-n-requires c =
     let l = c.loop-at.invariant in
-    (c.walk-r.ensures.few, c.walk-r.ensures.fit.grants, line-room l.0 c.walk-r.ensures)
+    (c.walk-r.ensures.comes.few, c.walk-r.ensures.comes.fit.grants, line-room l.0 c.walk-r.ensures.comes)
 
 pub loop-at-smaller : goal.loop-at-smaller
 loop-at-smaller c =
-    omega (arith, c.walk-r.ensures.on, c.walk-r.ensures.within)
+    omega (arith, c.walk-r.ensures.comes.on, c.walk-r.ensures.comes.within)
 
 pub loop-at-preserved : goal.loop-at-preserved
 loop-at-preserved c =
     let l = c.loop-at.invariant in
-    (onward_more l.0 c.walk-r.ensures c.print_walked-n.ensures, c.walk-r.ensures.fit)
+    (onward_more l.0 c.walk-r.ensures.comes c.print_walked-n.ensures, c.walk-r.ensures.comes.fit)
 
 pub shape_of-out : goal.shape_of-out
 shape_of-out c = search (onward_length, rules)

@@ -2,30 +2,8 @@
 use mathlib.Core.Path.{◌≡◌}
 use borrow.Author.Rules.{rules}
 use Rattle.walking.specs.declared.Beginning.TheVariants.{Fresh}
-use Rattle.trace.proofs.Firsts.{slots-there, tasks-there, sizes-there, rows-there, last-there, makers-there, clocks-there}
 use Rattle.trace.proofs.Firsts.{whole_room, whole-fit, refused-room, bad-room, whole_fresh, whole-refused, whole-bad, whole_none}
 use Rattle.trace.proofs.run_whole.Goals as goal
-
-pub slice_bounds-run_fresh-end : goal.slice_bounds-run_fresh-end
-slice_bounds-run_fresh-end c = search (slots-there, rules)
-
-pub slice_bounds-run_fresh-end-in-Fresh : goal.slice_bounds-run_fresh-end-in-Fresh
-slice_bounds-run_fresh-end-in-Fresh c = search (tasks-there, rules)
-
-pub slice_bounds-run_fresh-end-in-Fresh-2 : goal.slice_bounds-run_fresh-end-in-Fresh-2
-slice_bounds-run_fresh-end-in-Fresh-2 c = search (sizes-there, rules)
-
-pub slice_bounds-run_fresh-end-in-Fresh-3 : goal.slice_bounds-run_fresh-end-in-Fresh-3
-slice_bounds-run_fresh-end-in-Fresh-3 c = search (rows-there, rules)
-
-pub slice_bounds-run_fresh-end-in-Fresh-4 : goal.slice_bounds-run_fresh-end-in-Fresh-4
-slice_bounds-run_fresh-end-in-Fresh-4 c = search (last-there, rules)
-
-pub slice_bounds-run_fresh-end-in-Fresh-5 : goal.slice_bounds-run_fresh-end-in-Fresh-5
-slice_bounds-run_fresh-end-in-Fresh-5 c = search (makers-there, rules)
-
-pub slice_bounds-run_fresh-end-in-Fresh-6 : goal.slice_bounds-run_fresh-end-in-Fresh-6
-slice_bounds-run_fresh-end-in-Fresh-6 c = search (clocks-there, rules)
 
 pub run_fresh-requires : goal.run_fresh-requires
 run_fresh-requires c =
