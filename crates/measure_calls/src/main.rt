@@ -4,5 +4,5 @@
 use std::io;
 
 fn main(rt: HostRuntime) -> io::Result<()> {
-    measuring::run_all(&rt, true)
+    measuring::run_all::<true>(&rt)
 }

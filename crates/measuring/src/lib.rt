@@ -1,15 +1,14 @@
 // Runs the steps that stand on standard input, in records of eight bytes, and prints a sum of the replies: our side of `bench/run`. The
-// first record is the start. All is read before the first step. Two ways: 14 tested once for the run, or by a public call for each step;
-// a program of its own for each, since a step that is called from one place alone is compiled into it.
+// first record is the start. All is read before the first step. Two ways: 14 tested once for the run, or by a public call for each step.
+// Which is a const parameter, and each way has a program of its own, since a step that is called from one place alone is compiled into it.
 #![tactic(auto)]
 
-ghost use Rattle.std.specs.Prelude.{◌+◌, ◌<◌, ◌≤◌, length};
-ghost use Rattle.state.specs.View.{words_of, Fit};
+ghost use Rattle.state.specs.View.{words_of, Fit, SameWords};
 
 use replies::Reply;
 use rules::{Act, Fairness, Slot, Step, TaskId};
 use script::First;
-use state::{BatchSemaphore, LentWords};
+use state::{BatchSemaphore, LentWords, Stepped};
 use std::io;
 use std::io::Input;
 
@@ -19,15 +18,9 @@ const RECORD: usize = 8;
 // The most bytes that are read: 131,072 records.
 const INPUT: usize = 1048576;
 
-fn wide(x: u8) -> u32
-    ensures { result < 256 }
-{
-    x as u32
-}
-
 // A number of two bytes, the lower first.
 fn number(low: u8, high: u8) -> u32 {
-    wide(low) + 256 * wide(high)
+    u32::from(u16::from_le_bytes([low, high]))
 }
 
 // What the record of a kind says, with its two numbers.
@@ -48,17 +41,14 @@ fn act(kind: u8, a: u32, b: u32, slot: u8) -> Act {
     }
 }
 
-// The step in the record at a place.
-fn step_at(src: &[u8], at: usize) -> Step
-    requires { (at < 1048576) × (at + 8 ≤ length src.now) }
-{
-    let kind = src[at];
-    let actor = TaskId(src[at + 1]);
-    let low = src[at + 2];
-    let a = number(low, src[at + 3]);
-    let b = number(src[at + 4], src[at + 5]);
-    let act = act(kind, a, b, low);
-    Step { actor, act }
+// The step in a record.
+fn step_in(record: [u8; RECORD]) -> Step {
+    let [kind, actor, low, high, lower, higher, _, _] = record;
+    let act = act(kind, number(low, high), number(lower, higher), low);
+    Step {
+        actor: TaskId(actor),
+        act,
+    }
 }
 
 fn fairness(kind: u8) -> Fairness {
@@ -76,17 +66,13 @@ fn maker(kind: u8) -> Option<TaskId> {
 }
 
 // The start in the first record.
-fn first(src: &[u8]) -> First
-    requires { 8 ≤ length src.now }
-{
-    let fairness = fairness(src[0]);
-    let stock = number(src[4], src[5]);
-    let maker = maker(src[1]);
+fn first_in(record: [u8; RECORD]) -> First {
+    let [kind, by, tasks, _, low, high, _, _] = record;
     First {
-        fairness,
-        stock,
-        maker,
-        tasks: wide(src[2]),
+        fairness: fairness(kind),
+        stock: number(low, high),
+        maker: maker(by),
+        tasks: u32::from(tasks),
     }
 }
 
@@ -98,61 +84,44 @@ fn weight(r: Reply) -> u64 {
         Reply::Pending => 3,
         Reply::Closed => 4,
         Reply::NoPermits => 5,
-        Reply::Made(x) => weight_of_slot(x),
+        Reply::Made(x) => 10 + u64::from(x.0),
         Reply::Refused(_) => 1000,
     }
 }
 
-fn weight_of_slot(x: Slot) -> u64 {
-    10 + (x.0 as u64)
-}
-
-fn sum_on(sum: u64, r: Reply) -> u64 {
-    std::num::wrapping_add_u64(sum, weight(r))
-}
-
-// The sum of the steps in the records behind the first, where 14 is not tested again.
-fn run_steps(src: &[u8], start: BatchSemaphore, w: &mut LentWords) -> u64
-    requires { (length src.now ≤ 1048576) × Fit start (words_of w.old) w.old.grants.now }
+// A step, by a public call or as a step of a run.
+fn step<const BY_CALLS: bool>(s: BatchSemaphore, w: &mut LentWords, a: Step) -> Stepped
+    requires { Fit s (words_of w.old) w.old.grants.now }
+    ensures same { SameWords w.old w.new }
+    ensures fit { Fit result.state (words_of w.new) w.new.grants.now }
 {
-    let mut s = start;
-    let mut sum: u64 = 0;
-    let mut at = RECORD;
-    while at + RECORD <= src.len() {
-        let a = step_at(src, at);
-        at += RECORD;
-        let r = stepping::step_on(s, w, a);
-        let reply = r.reply;
-        sum = sum_on(sum, reply);
-        let state = r.state;
-        s = state;
+    if BY_CALLS {
+        semaphore::step(s, w, a)
+    } else {
+        stepping::step_on(s, w, a)
     }
-    sum
 }
 
-// The same by public calls.
-fn run_calls(src: &[u8], start: BatchSemaphore, w: &mut LentWords) -> u64
-    requires { length src.now ≤ 1048576 }
+// The sum of the steps in the records, from a state.
+fn run_on<const BY_CALLS: bool>(
+    records: &[[u8; RECORD]],
+    start: BatchSemaphore,
+    w: &mut LentWords,
+) -> u64
+    requires { Fit start (words_of w.old) w.old.grants.now }
 {
     let mut s = start;
     let mut sum: u64 = 0;
-    let mut at = RECORD;
-    while at + RECORD <= src.len() {
-        let a = step_at(src, at);
-        at += RECORD;
-        let r = semaphore::step(s, w, a);
-        let reply = r.reply;
-        sum = sum_on(sum, reply);
-        let state = r.state;
-        s = state;
+    for record in records {
+        let r = step::<BY_CALLS>(s, w, step_in(*record));
+        sum = sum.wrapping_add(weight(r.reply));
+        s = r.state;
     }
     sum
 }
 
 // The sum of the records, from the state that the first starts with.
-fn run(src: &[u8], by_calls: bool) -> u64
-    requires { (8 ≤ length src.now) × (length src.now ≤ 1048576) }
-{
+fn run<const BY_CALLS: bool>(first: [u8; RECORD], records: &[[u8; RECORD]]) -> u64 {
     let mut slots = [0u32; 320];
     let mut tasks = [0u32; 32];
     let mut sizes = [0u32; 64];
@@ -162,7 +131,7 @@ fn run(src: &[u8], by_calls: bool) -> u64
     let mut clocks = [0u32; 256];
     let mut grants = [0u32; 96];
     let r = starting::start_spawned(
-        first(src),
+        first_in(first),
         &mut slots,
         &mut tasks,
         &mut sizes,
@@ -181,23 +150,17 @@ fn run(src: &[u8], by_calls: bool) -> u64
         clocks: &mut clocks,
         grants: &mut grants,
     };
-    if by_calls {
-        return run_calls(src, r.state, &mut w);
-    }
-    run_steps(src, r.state, &mut w)
-}
-
-fn input() -> [u8; INPUT] {
-    [0u8; INPUT]
+    run_on::<BY_CALLS>(records, r.state, &mut w)
 }
 
 // Runs them all, and prints the sum; without a start, 0.
-pub fn run_all(rt: &(impl Input + Print), by_calls: bool) -> io::Result<()> {
-    let mut src = input();
+pub fn run_all<const BY_CALLS: bool>(rt: &(impl Input + Print)) -> io::Result<()> {
+    let mut src = filling::room::<INPUT>();
     let n = filling::read_full(&mut rt.reader(), &mut src);
+    let (records, _) = src[..n].as_chunks::<RECORD>();
     let mut sum: u64 = 0;
-    if RECORD <= n {
-        sum = run(&src[..n], by_calls);
+    if let Some((first, rest)) = records.split_first() {
+        sum = run::<BY_CALLS>(*first, rest);
     }
     print!(rt; "{sum}")
 }

@@ -3,5 +3,5 @@ use Rattle.std.proofs.Common.{rules}
 use Rattle.fresh.proofs.Starts.{started_fit}
 use Rattle.measuring.proofs.run.Goals as goal
 
-pub run_steps-requires : goal.run_steps-requires
-run_steps-requires c = (search rules, search (started_fit, rules))
+pub run_on-requires : goal.run_on-requires
+run_on-requires g c = search (started_fit, rules)
