@@ -1,5 +1,6 @@
 // A step of a batch semaphore that counts on what 14 does not refuse: planned, checked, and then refused or taken, by who and then by when.
-// The struct goes by value, the words are lent.
+// The struct goes by value, the words are lent. An array that a function only reads is borrowed by name first, as `&mut *w.slots`: handed on
+// straight out of the struct, the check no longer knows after the call what stands in it.
 #![tactic(auto)]
 
 ghost use Rattle.std.specs.Prelude.{◌≡◌, true, ◌*◌, ◌≤◌, length};

@@ -64,6 +64,7 @@ fn run_lines(
     let mut n = start;
     while at < script.len() {
         let r = walking::walk(script, at, s, w);
+        // by name first, as in `stepping`
         let grants = &mut *w.grants;
         n = print_walked(out, n, r, grants);
         let state = r.out.state;
@@ -89,6 +90,7 @@ fn run_fresh(
         count: 0,
         state: s,
     };
+    // by name first, as in `stepping`
     let grants = &mut *w.grants;
     let n = print_step(out, 0, first, grants);
     run_lines(script, from, out, n, s, w)
