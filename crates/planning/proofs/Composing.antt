@@ -7,7 +7,7 @@ use mathlib.Core.List.{List, [], ◌∷◌, ◌++◌}
 use Rattle.rules.specs.Refusals.{Ground, ◌if◌, first}
 use Rattle.splitting.specs.Parts.{or_else}
 use Rattle.replies.specs.declared.Refusal.{Refusal}
-use Rattle.replies.specs.Answers.{number_of, given}
+use Rattle.replies.specs.Answers.{number_of}
 use Rattle.planning.specs.Plans.{Says}
 
 -- ---- one ground after another

@@ -14,7 +14,7 @@ use records::{Marking, Request, Task};
 use replies::Reply;
 use rules::{Ask, Direct, Dropping, Polling, Slot, TaskId};
 
-// Each answers the reply of a step that leaves the head as it is; or none, and nothing is done yet, because the step moves permits, the queue
+// Each function answers the reply of a step that leaves the head as it is, or `None` where nothing is done yet: the step moves permits, the queue
 // or the reservation.
 
 // A request of the task, in the slot numbered i.
