@@ -3,7 +3,7 @@ use Rattle.std.specs.Prelude.{Option, None, Some, is_some}
 use Prim.Native.Nat.{ℕ, zero, suc, ◌*◌, ◌≤◌, ◌<◌}
 use native.Mathlib.Omega.{arith}
 use mathlib.Core.Path.{◌≡◌, refl, sym, ap, ◌∙◌}
-use mathlib.Core.Bool.{Bool, true, false, ◌||◌, or-false}
+use mathlib.Core.Bool.{Bool, true, false, ◌||◌, or-false, false≢true}
 use mathlib.Core.List.{List, [], ◌∷◌, map}
 use borrow.Author.Tests.{ltb-false, leb-false, eqb-true, not-false}
 use lib.Dec.{ltb, eqb}
@@ -169,17 +169,6 @@ sized : (n e : ℕ) (bad : Bool) → bad ≡ bad_sizes n e → bad ≡ false →
 sized n e bad s h =
     let c = neither _ _ (sym s ∙ h) in
     (ltb-false max_tasks n (neither (eqb n 0) (ltb max_tasks n) c.0).1, eqb-true e (n * n) (not-false _ c.1))
-
--- one test after another
-module _ (b x : Bool) (e : b ≡ x) where
-  pub first_says : (y : Bool) → b ≡ true → true ≡ (x || y)
-  first_says y h = rw (← e, h)
-
-  pub second_says : (y : Bool) → b ≡ false → y ≡ (x || y)
-  second_says y h = rw (← e, h)
-
-  pub alone : b ≡ (x || false)
-  alone = e ∙ sym (or-false x)
 
 -- what 12 says: of the sizes, and of the maker
 module _ (a : Start) (bad : Bool) (e : bad ≡ (bad_sizes a.tasks (length a.clocks) || not_below a.tasks a.maker)) where

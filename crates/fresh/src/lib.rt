@@ -1,10 +1,10 @@
 // Fresh states: `new` with a maker and `const_new` with none; refusal 12. The caller lends all words, whatever stands in them.
 #![tactic(auto)]
 
-ghost use Rattle.std.specs.Prelude.{◌≡◌, true, false, ◌||◌, List, ◌++◌, ℕ, ◌+◌, ◌-◌, ◌*◌, ◌≤◌, ◌<◌, leb, length, take, drop, None, Some};
+ghost use Rattle.std.specs.Prelude.{◌≡◌, true, false, ◌||◌, List, ◌++◌, ℕ, ◌+◌, ◌-◌, ◌*◌, ◌≤◌, ◌<◌, length, take, drop, None, Some};
 ghost use Rattle.rules.specs.Sizes.{max_tasks, slot_count, width};
 ghost use Rattle.rules.specs.Clock.{empty};
-ghost use Rattle.rules.specs.Fresh.{fresh, refused_fresh};
+ghost use Rattle.rules.specs.Fresh.{fresh, not_below, refused_fresh};
 ghost use Rattle.rules.specs.Steps.{quiet};
 ghost use Rattle.rules.specs.Steps.Answer.{done, refused as refused_with};
 ghost use Rattle.rules.specs.Runs.{start};
@@ -32,24 +32,21 @@ pub struct Started {
 fn is_bad_start(count: u32, entries: usize) -> bool
     ensures { result ≡ bad_sizes count entries }
 {
-    if count == 0 {
-        return true;
-    }
     let n = count as usize;
-    if times::TASKS < n {
-        return true;
-    }
-    entries != n * n
+    n == 0 || times::TASKS < n || entries != n * n
 }
 
-// Refusal 12 of a start that a task makes.
-fn is_refused(count: u32, entries: usize, maker: TaskId) -> bool
-    ensures { result ≡ (bad_sizes count entries || leb count maker.0) }
+// Refusal 12 of a start that a task makes, or none.
+fn is_refused(count: u32, entries: usize, maker: Option<TaskId>) -> bool
+    ensures { result ≡ (bad_sizes count entries || not_below count maker) }
 {
     if is_bad_start(count, entries) {
         return true;
     }
-    count <= maker.0 as u32
+    match maker {
+        Some(t) => count <= u32::from(t.0),
+        None => false,
+    }
 }
 
 // All words are 0.
@@ -114,34 +111,29 @@ fn start_clocks(starts: &[u32], n: usize, clocks: &mut [u32])
     }
 }
 
-// Not set up, and no taking yet.
-fn start_unmade(starts: &[u32], n: usize, last: &mut [u32], clocks: &mut [u32]) -> Batches
-    requires { (n ≤ max_tasks) × (length starts.now ≡ n * n) × (length last.old ≡ width) × (length clocks.old ≡ max_tasks * width) }
-    ensures { (sizes rows : List ℕ) → Lent sizes rows → Begins result sizes rows last.new clocks.new n (fresh_clocks n n starts.now) None }
-{
-    clear(last);
-    start_clocks(starts, n, clocks);
-    Batches::const_new()
-}
-
-// Set up with the maker's clock, and no taking yet.
-fn start_made(
+// No taking yet; and the batches, set up with the maker's clock where a task makes them.
+fn start_when(
     stock: u32,
     starts: &[u32],
     n: usize,
-    maker: TaskId,
+    maker: Option<TaskId>,
     sizes: &mut [u32],
     rows: &mut [u32],
     last: &mut [u32],
     clocks: &mut [u32],
 ) -> Batches
-    requires { (n ≤ max_tasks) × (length starts.now ≡ n * n) × (maker.0 < n) × (Lent sizes.old rows.old) × (length last.old ≡ width) × (length clocks.old ≡ max_tasks * width) }
-    ensures { Begins result sizes.new rows.new last.new clocks.new n (fresh_clocks n n starts.now) (fresh_batches stock (fresh_clocks n n starts.now) (Some maker)) }
+    requires { (n ≤ max_tasks) × (length starts.now ≡ n * n) × ((t : TaskId) → maker ≡ Some t → t.0 < n) × (Lent sizes.old rows.old) × (length last.old ≡ width) × (length clocks.old ≡ max_tasks * width) }
+    ensures { Begins result sizes.new rows.new last.new clocks.new n (fresh_clocks n n starts.now) (fresh_batches stock (fresh_clocks n n starts.now) maker) }
 {
     clear(last);
     start_clocks(starts, n, clocks);
-    let clock = times::clock_in(clocks, times::TASKS, maker.0 as usize);
-    Batches::new(sizes, rows, stock, clock)
+    match maker {
+        Some(t) => {
+            let clock = times::clock_in(clocks, times::TASKS, t.0 as usize);
+            Batches::new(sizes, rows, stock, clock)
+        }
+        None => Batches::const_new(),
+    }
 }
 
 // ---- both
@@ -169,13 +161,13 @@ fn refuse(
     }
 }
 
-// What is accepted with a maker.
-fn begin_made(
+// What is accepted.
+fn begin(
     fairness: Fairness,
     stock: u32,
     n: u32,
     starts: &[u32],
-    maker: TaskId,
+    maker: Option<TaskId>,
     slots: &mut [u32],
     tasks: &mut [u32],
     sizes: &mut [u32],
@@ -184,11 +176,11 @@ fn begin_made(
     makers: &mut [u32],
     clocks: &mut [u32],
 ) -> Started
-    requires { (n ≤ max_tasks) × (length starts.now ≡ n * n) × (maker.0 < n) × (Sized (record { slots = slots.old; tasks = tasks.old; sizes = sizes.old; rows = rows.old; last = last.old; makers = makers.old; clocks = clocks.old })) }
-    ensures { Gives result (record { slots = slots.new; tasks = tasks.new; sizes = sizes.new; rows = rows.new; last = last.new; makers = makers.new; clocks = clocks.new }) (quiet done (fresh (record { fairness = fairness; stock = stock; tasks = n; clocks = starts.now; maker = Some maker }))) }
+    requires { (n ≤ max_tasks) × (length starts.now ≡ n * n) × ((t : TaskId) → maker ≡ Some t → t.0 < n) × (Sized (record { slots = slots.old; tasks = tasks.old; sizes = sizes.old; rows = rows.old; last = last.old; makers = makers.old; clocks = clocks.old })) }
+    ensures { Gives result (record { slots = slots.new; tasks = tasks.new; sizes = sizes.new; rows = rows.new; last = last.new; makers = makers.new; clocks = clocks.new }) (quiet done (fresh (record { fairness = fairness; stock = stock; tasks = n; clocks = starts.now; maker = maker }))) }
 {
     let head = start_who(fairness, false, stock, n, slots, tasks);
-    let batches = start_made(stock, starts, n as usize, maker, sizes, rows, last, clocks);
+    let batches = start_when(stock, starts, n as usize, maker, sizes, rows, last, clocks);
     let state = BatchSemaphore { head, batches };
     Started {
         refused: false,
@@ -196,30 +188,29 @@ fn begin_made(
     }
 }
 
-// What is accepted with none.
-fn begin_unmade(
+// A fresh state, made by a task or by none. Refused: 12.
+pub fn start(
     fairness: Fairness,
     stock: u32,
-    n: u32,
+    count: u32,
     starts: &[u32],
-    slots: &mut [u32],
-    tasks: &mut [u32],
-    sizes: &mut [u32],
-    rows: &mut [u32],
-    last: &mut [u32],
-    makers: &mut [u32],
-    clocks: &mut [u32],
+    maker: Option<TaskId>,
+    slots: &mut [u32; 320],
+    tasks: &mut [u32; 32],
+    sizes: &mut [u32; 64],
+    rows: &mut [u32; 1024],
+    last: &mut [u32; 16],
+    makers: &mut [u32; 512],
+    clocks: &mut [u32; 256],
 ) -> Started
-    requires { (n ≤ max_tasks) × (length starts.now ≡ n * n) × (Sized (record { slots = slots.old; tasks = tasks.old; sizes = sizes.old; rows = rows.old; last = last.old; makers = makers.old; clocks = clocks.old })) }
-    ensures { Gives result (record { slots = slots.new; tasks = tasks.new; sizes = sizes.new; rows = rows.new; last = last.new; makers = makers.new; clocks = clocks.new }) (quiet done (fresh (record { fairness = fairness; stock = stock; tasks = n; clocks = starts.now; maker = None }))) }
+    ensures { Gives result (record { slots = slots.new; tasks = tasks.new; sizes = sizes.new; rows = rows.new; last = last.new; makers = makers.new; clocks = clocks.new }) (start (record { fairness = fairness; stock = stock; tasks = count; clocks = starts.now; maker = maker })) }
 {
-    let head = start_who(fairness, false, stock, n, slots, tasks);
-    let batches = start_unmade(starts, n as usize, last, clocks);
-    let state = BatchSemaphore { head, batches };
-    Started {
-        refused: false,
-        state,
+    if is_refused(count, starts.len(), maker) {
+        return refuse(slots, tasks, sizes, rows, last, makers, clocks);
     }
+    begin(
+        fairness, stock, count, starts, maker, slots, tasks, sizes, rows, last, makers, clocks,
+    )
 }
 
 // A fresh state that a task makes: its batches are set up with the maker's clock. Refused: 12.
@@ -239,11 +230,19 @@ pub fn new(
 ) -> Started
     ensures { Gives result (record { slots = slots.new; tasks = tasks.new; sizes = sizes.new; rows = rows.new; last = last.new; makers = makers.new; clocks = clocks.new }) (start (record { fairness = fairness; stock = stock; tasks = count; clocks = starts.now; maker = Some maker })) }
 {
-    if is_refused(count, starts.len(), maker) {
-        return refuse(slots, tasks, sizes, rows, last, makers, clocks);
-    }
-    begin_made(
-        fairness, stock, count, starts, maker, slots, tasks, sizes, rows, last, makers, clocks,
+    start(
+        fairness,
+        stock,
+        count,
+        starts,
+        Some(maker),
+        slots,
+        tasks,
+        sizes,
+        rows,
+        last,
+        makers,
+        clocks,
     )
 }
 
@@ -263,10 +262,7 @@ pub fn const_new(
 ) -> Started
     ensures { Gives result (record { slots = slots.new; tasks = tasks.new; sizes = sizes.new; rows = rows.new; last = last.new; makers = makers.new; clocks = clocks.new }) (start (record { fairness = fairness; stock = stock; tasks = count; clocks = starts.now; maker = None })) }
 {
-    if is_bad_start(count, starts.len()) {
-        return refuse(slots, tasks, sizes, rows, last, makers, clocks);
-    }
-    begin_unmade(
-        fairness, stock, count, starts, slots, tasks, sizes, rows, last, makers, clocks,
+    start(
+        fairness, stock, count, starts, None, slots, tasks, sizes, rows, last, makers, clocks,
     )
 }

@@ -7,7 +7,7 @@ use rules::{Act, Question, Step};
 use showing::{put, put_step};
 use state::{BatchSemaphore, Stepped};
 use std::io::Result;
-use walking::{Beginning, Begun};
+use walking::{Begun, NotBegun};
 
 // Room for the text of a recorded script.
 pub const ROOM: usize = 131072;
@@ -19,10 +19,10 @@ struct Turn {
     pub end: usize,
 }
 
-// After the first line, and the words it was begun in.
+// What the first line came to, and the words it was begun in.
 #[derive(Clone, Copy)]
 struct Opened {
-    pub begun: Begun,
+    pub begun: std::result::Result<Begun, NotBegun>,
     pub arrays: Arrays,
 }
 
@@ -113,13 +113,12 @@ fn run_lines(
 fn run_fresh(
     rt: &impl Print,
     script: &[u8],
-    from: usize,
     buf: &mut [u8],
     limit: usize,
-    o: Opened,
+    begun: Begun,
+    arrays: Arrays,
 ) -> Result<usize> {
-    let state = o.begun.state;
-    let arrays = o.arrays;
+    let state = begun.state;
     let stepped = Stepped {
         reply: Reply::Done,
         count: 0,
@@ -127,7 +126,7 @@ fn run_fresh(
     };
     let came = Came { stepped, arrays };
     let end = put_step(buf, 0, &[], 0, came);
-    run_lines(rt, script, from, buf, limit, Turn { came, end })
+    run_lines(rt, script, begun.next, buf, limit, Turn { came, end })
 }
 
 // What the first line comes to.
@@ -165,13 +164,11 @@ fn begin(script: &[u8]) -> Opened {
 // The text for a script; where it ends in a buffer. Whenever the buffer is full to the limit, it is written out first.
 pub fn run(rt: &impl Print, script: &[u8], buf: &mut [u8], limit: usize) -> Result<usize> {
     let o = begin(script);
-    let begun = o.begun;
-    let how = begun.how;
-    match how {
-        Beginning::Fresh => run_fresh(rt, script, begun.next, buf, limit, o),
-        Beginning::Refused => Ok(put(buf, 0, b"r12\n")),
-        Beginning::Bad => Ok(put(buf, 0, b"bad\n")),
-        Beginning::Nothing => Ok(0),
+    match o.begun {
+        Ok(begun) => run_fresh(rt, script, buf, limit, begun, o.arrays),
+        Err(NotBegun::Refused) => Ok(put(buf, 0, b"r12\n")),
+        Err(NotBegun::Bad) => Ok(put(buf, 0, b"bad\n")),
+        Err(NotBegun::Nothing) => Ok(0),
     }
 }
 

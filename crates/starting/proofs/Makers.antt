@@ -4,32 +4,16 @@ use mathlib.Core.Path.{◌≡◌, sym, subst}
 use mathlib.Core.List.{List}
 use lib.ListN.{length, take}
 use lib.Seq.{length-take-le}
-use Rattle.rules.specs.declared.TaskId.{TaskId}
-use Rattle.rules.specs.Fresh.{Start}
 use Rattle.rules.specs.Spawning.{spawned}
 use Rattle.rules.specs.Runs.{start}
 use Rattle.state.specs.View.{Words}
 use Rattle.fresh.specs.declared.Started.{Started}
 use Rattle.fresh.specs.Starting.{Gives}
 use Rattle.script.specs.declared.First.{First}
-use Rattle.std.specs.Prelude.{Option, None, Some}
 use Rattle.script.specs.Opening.{start_said}
 use Rattle.spawning.specs.Rows.{spawned_in}
 use Rattle.reading.specs.Starts.{start_read, entries_of}
 use Rattle.reading.proofs.Starts.{entries-few, same-spawned}
-
-module _ (a : First) (r : Started) (w : Words) (cs : List ℕ) where
-  abbrev by : Option TaskId → Start
-  by m = record { fairness = a.fairness; stock = a.stock; tasks = a.tasks; clocks = cs; maker = m }
-
-  said_by_lem : (m : Option TaskId) → a.maker ≡ m → Gives r w (start (by m)) → Gives r w (start (start_said a cs))
-  said_by_lem m e g = subst (λ (x : Option TaskId). Gives r w (start (by x))) (sym e) g
-
-  pub said-maker : (t : TaskId) → a.maker ≡ Some t → Gives r w (start (by (Some t))) → Gives r w (start (start_said a cs))
-  said-maker t e g = said_by_lem (Some t) e g
-
-  pub said_nobody : a.maker ≡ None → Gives r w (start (by None)) → Gives r w (start (start_said a cs))
-  said_nobody e g = said_by_lem None e g
 
 -- clocks that stand in words
 entries-there : (k n : ℕ) (starts : List ℕ) → length starts ≡ 256 → n ≡ entries_of k → n ≤ length starts

@@ -26,16 +26,10 @@ fn start_with(
 ) -> Started
     ensures { Gives result (words slots.new tasks.new sizes.new rows.new last.new makers.new clocks.new) (begun (start_said a starts.now)) }
 {
-    let fairness = a.fairness;
-    let maker = a.maker;
-    match maker {
-        Some(t) => fresh::new(
-            fairness, a.stock, a.tasks, starts, t, slots, tasks, sizes, rows, last, makers, clocks,
-        ),
-        None => fresh::const_new(
-            fairness, a.stock, a.tasks, starts, slots, tasks, sizes, rows, last, makers, clocks,
-        ),
-    }
+    fresh::start(
+        a.fairness, a.stock, a.tasks, starts, a.maker, slots, tasks, sizes, rows, last, makers,
+        clocks,
+    )
 }
 
 // With the clocks that stand in words from the first on: 256 of them, as a slice, since a part of a lent array cannot be lent on.

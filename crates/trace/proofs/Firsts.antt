@@ -19,8 +19,8 @@ use Rattle.words.specs.View.{grants_of}
 use Rattle.state.specs.declared.BatchSemaphore.{BatchSemaphore}
 use Rattle.state.specs.View.{Words, view_of, outcome_of, Fit}
 use Rattle.walking.specs.declared.Begun.{Begun}
-use Rattle.walking.specs.declared.Beginning.TheVariants.{Fresh, Refused, Bad, Nothing}
-use Rattle.walking.specs.Coming.{Begins}
+use Rattle.reading.specs.Starts.{BadAt}
+use Rattle.walking.specs.Coming.{FreshAt, RefusedAt}
 use Rattle.walking.proofs.Printed.{fresh_prints, refused_prints, bad_prints, nothing_prints}
 use Rattle.printing.proofs.Chain.{Room, pair, here, onward}
 use Rattle.trace.specs.Running.{room, first_of, Prints}
@@ -50,33 +50,32 @@ module _ (script : List ℕ) (from : ℕ) (old : List ℕ) {s : BatchSemaphore} 
       fresh-printed b = appended_then (a w) (here first-room) b
 
 -- The whole script, by what its first line came to.
-module _ {script : List ℕ} {r : Begun} {w : Words} (b : Begins script r w) where
-  module _ {m : ℕ} (h : length (program (lines script)) ≤ m) where
-    pub whole_room : r.how ≡ Fresh → length (first_of (view_of r.state w) ++ trace (view_of r.state w) (lines (drop r.next script))) ≤ m
-    whole_room q = rw (fresh_prints (b.fresh q)) at h
+module _ {script : List ℕ} {m : ℕ} (h : length (program (lines script)) ≤ m) where
+  pub whole_room : {r : Begun} {w : Words} → FreshAt script r w → length (first_of (view_of r.state w) ++ trace (view_of r.state w) (lines (drop r.next script))) ≤ m
+  whole_room f = rw (fresh_prints f) at h
 
-    pub refused-room : r.how ≡ Refused → 4 ≤ m
-    refused-room q = rw (refused_prints (b.refused q)) at h
+  pub refused-room : RefusedAt script → 4 ≤ m
+  refused-room f = rw (refused_prints f) at h
 
-    pub bad-room : r.how ≡ Bad → 4 ≤ m
-    bad-room q = rw (bad_prints (b.bad q)) at h
+  pub bad-room : BadAt script → 4 ≤ m
+  bad-room f = rw (bad_prints f) at h
 
-  pub whole-fit : {gs : List ℕ} → r.how ≡ Fresh → length gs ≡ slot_count * 3 → Fit r.state w gs
-  whole-fit q l = let g = (b.fresh q).begins in record { shaped = g.shaped; grants = l; sound = g.sound }
+pub whole-fit : {script : List ℕ} {r : Begun} {w : Words} {gs : List ℕ} → FreshAt script r w → length gs ≡ slot_count * 3 → Fit r.state w gs
+whole-fit f l = let g = f.begins in record { shaped = g.shaped; grants = l; sound = g.sound }
 
-  module _ {old new : List ℕ} {e : ℕ} where
-    pub whole_fresh : r.how ≡ Fresh → Appended old 0 (first_of (view_of r.state w) ++ trace (view_of r.state w) (lines (drop r.next script))) new e
-        → Appended old 0 (program (lines script)) new e
-    whole_fresh q a = rw (fresh_prints (b.fresh q)) a
+module _ {script old new : List ℕ} {e : ℕ} where
+  pub whole_fresh : {r : Begun} {w : Words} → FreshAt script r w → Appended old 0 (first_of (view_of r.state w) ++ trace (view_of r.state w) (lines (drop r.next script))) new e
+      → Appended old 0 (program (lines script)) new e
+  whole_fresh f a = rw (fresh_prints f) a
 
-    pub whole-refused : r.how ≡ Refused → Appended old 0 (114 ∷ 49 ∷ 50 ∷ 10 ∷ []) new e → Appended old 0 (program (lines script)) new e
-    whole-refused q a = rw (refused_prints (b.refused q)) a
+  pub whole-refused : RefusedAt script → Appended old 0 (114 ∷ 49 ∷ 50 ∷ 10 ∷ []) new e → Appended old 0 (program (lines script)) new e
+  whole-refused f a = rw (refused_prints f) a
 
-    pub whole-bad : r.how ≡ Bad → Appended old 0 (98 ∷ 97 ∷ 100 ∷ 10 ∷ []) new e → Appended old 0 (program (lines script)) new e
-    whole-bad q a = rw (bad_prints (b.bad q)) a
+  pub whole-bad : BadAt script → Appended old 0 (98 ∷ 97 ∷ 100 ∷ 10 ∷ []) new e → Appended old 0 (program (lines script)) new e
+  whole-bad f a = rw (bad_prints f) a
 
-  pub whole_none : {old : List ℕ} → r.how ≡ Nothing → Appended old 0 (program (lines script)) old 0
-  whole_none {old} q = rw (nothing_prints script (b.nothing q)) (appended_none old 0)
+pub whole_none : (script old : List ℕ) → lines script ≡ [] → Appended old 0 (program (lines script)) old 0
+whole_none script old q = rw (nothing_prints script q) (appended_none old 0)
 
 -- More than 65,536 bytes print only `long`.
 module _ (script old : List ℕ) where

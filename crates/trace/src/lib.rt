@@ -12,7 +12,7 @@ ghost use Rattle.trace.specs.Running.{first_of, Prints};
 
 use replies::Reply;
 use state::{BatchSemaphore, LentWords, Stepped};
-use walking::{Beginning, Walked};
+use walking::{NotBegun, Walked};
 
 // The most bytes that a script may have, and one more, which tells that it is too long.
 pub const LONGEST: usize = 65536;
@@ -30,10 +30,8 @@ fn print_step(out: &mut [u8], n: usize, r: Stepped, grants: &[u32]) -> usize
     requires { (r.count ≤ slot_count) × (length grants.now ≡ slot_count * 3) × ((w : Words) → n + length (outcome_text (outcome_of r w grants.now)) ≤ length out.old) }
     ensures { (w : Words) → Appended out.old n (outcome_text (outcome_of r w grants.now)) out.new result }
 {
-    let reply = r.reply;
-    let state = r.state;
-    let c = printing::counts_of(state.head);
-    printing::print_line(out, n, reply, c, grants, r.count)
+    let c = printing::counts_of(r.state.head);
+    printing::print_line(out, n, r.reply, c, grants, r.count)
 }
 
 // The line of what a line came to.
@@ -67,8 +65,7 @@ fn run_lines(
         // by name first, as in `stepping`
         let grants = &mut *w.grants;
         n = print_walked(out, n, r, grants);
-        let state = r.out.state;
-        s = state;
+        s = r.out.state;
         at = r.next;
     }
     n
@@ -109,7 +106,7 @@ fn run_whole(script: &[u8], out: &mut [u8]) -> usize
     let mut makers = [0u32; 512];
     let mut clocks = [0u32; 256];
     let mut grants = [0u32; 96];
-    let r = walking::begin(
+    match walking::begin(
         script,
         &mut slots,
         &mut tasks,
@@ -118,10 +115,8 @@ fn run_whole(script: &[u8], out: &mut [u8]) -> usize
         &mut last,
         &mut makers,
         &mut clocks,
-    );
-    let how = r.how;
-    match how {
-        Beginning::Fresh => {
+    ) {
+        Ok(b) => {
             let mut w = LentWords {
                 slots: &mut slots,
                 tasks: &mut tasks,
@@ -132,11 +127,11 @@ fn run_whole(script: &[u8], out: &mut [u8]) -> usize
                 clocks: &mut clocks,
                 grants: &mut grants,
             };
-            run_fresh(script, r.next, out, r.state, &mut w)
+            run_fresh(script, b.next, out, b.state, &mut w)
         }
-        Beginning::Refused => text::put(out, 0, b"r12\n"),
-        Beginning::Bad => text::put(out, 0, b"bad\n"),
-        Beginning::Nothing => 0,
+        Err(NotBegun::Refused) => text::put(out, 0, b"r12\n"),
+        Err(NotBegun::Bad) => text::put(out, 0, b"bad\n"),
+        Err(NotBegun::Nothing) => 0,
     }
 }
 

@@ -1,5 +1,5 @@
 -- What the lines of a script come to, by the rules and as answered.
-use Rattle.std.specs.Prelude.{ℕ, ◌+◌, ◌≤◌, ◌<◌, ◌≡◌, true, false, cond, List, [], ◌∷◌, length, drop, Option, None, Some, option_map}
+use Rattle.std.specs.Prelude.{ℕ, ◌+◌, ◌≤◌, ◌<◌, ◌≡◌, true, false, cond, List, [], ◌∷◌, length, drop, Option, None, Some, option_map, Result, Ok, Err}
 use Rattle.rules.specs.declared.Step.{Step}
 use Rattle.rules.specs.Sizes.{slot_count}
 use Rattle.rules.specs.State.{State}
@@ -14,9 +14,9 @@ use Rattle.state.specs.declared.BatchSemaphore.{BatchSemaphore}
 use Rattle.state.specs.View.{Words, view_of, outcome_of, ShapedAll, Fit}
 use Rattle.reading.specs.Steps.{line_bytes}
 use Rattle.reading.specs.Starts.{start_read, BadAt}
-use Rattle.walking.specs.declared.Beginning.{Beginning}
-use Rattle.walking.specs.declared.Beginning.TheVariants.{Fresh, Refused, Bad, Nothing}
 use Rattle.walking.specs.declared.Begun.{Begun}
+use Rattle.walking.specs.declared.NotBegun.{NotBegun}
+use Rattle.walking.specs.declared.NotBegun.TheVariants.{Refused, Bad, Nothing}
 use Rattle.walking.specs.declared.Walked.{Walked}
 
 -- A LINE comes to the outcome of the step that it says, or to nothing: then it prints `bad`, and changes nothing.
@@ -57,15 +57,15 @@ pub record BeginsFresh (a : Start) (s : BatchSemaphore) (w : Words) : Type 0 whe
   pub shaped : ShapedAll s w
   pub sound : Sound (view_of s w)
 
-abbrev pub StartsAs : Beginning → Start → ℕ → Begun → Words → Type 0
-StartsAs Fresh a next r w = (r.next ≡ next) × BeginsFresh a r.state w
-StartsAs Refused a next r w = refuses12 a ≡ true
-StartsAs Bad a next r w = ⊥
-StartsAs Nothing a next r w = ⊥
+abbrev pub StartsAs : Result Begun NotBegun → Start → ℕ → Words → Type 0
+StartsAs (Ok r) a next w = (r.next ≡ next) × BeginsFresh a r.state w
+StartsAs (Err Refused) a next w = refuses12 a ≡ true
+StartsAs (Err Bad) a next w = ⊥
+StartsAs (Err Nothing) a next w = ⊥
 
 -- with the start that was read, its clocks in words
-abbrev pub StartedBy : First → List ℕ → ℕ → Begun → Words → Type 0
-StartedBy first starts next r w = StartsAs r.how (start_read first starts) next r w
+abbrev pub StartedBy : First → List ℕ → ℕ → Result Begun NotBegun → Words → Type 0
+StartedBy first starts next r w = StartsAs r (start_read first starts) next w
 
 pub record FreshAt (script : List ℕ) (r : Begun) (w : Words) : Type 0 where
   pub line : Line
@@ -85,8 +85,8 @@ pub record RefusedAt (script : List ℕ) : Type 0 where
   pub refused : refuses12 start ≡ true
   pub some_bytes : 0 < length script
 
-pub record Begins (script : List ℕ) (r : Begun) (w : Words) : Type 0 where
-  pub fresh : r.how ≡ Fresh → FreshAt script r w
-  pub refused : r.how ≡ Refused → RefusedAt script
-  pub bad : r.how ≡ Bad → BadAt script
-  pub nothing : r.how ≡ Nothing → lines script ≡ []
+abbrev pub Begins : List ℕ → Result Begun NotBegun → Words → Type 0
+Begins script (Ok r) w = FreshAt script r w
+Begins script (Err Refused) w = RefusedAt script
+Begins script (Err Bad) w = BadAt script
+Begins script (Err Nothing) w = lines script ≡ []

@@ -6,33 +6,28 @@ ghost use Rattle.std.specs.Prelude.{◌≡◌, ◌<◌, length};
 ghost use Rattle.state.specs.View.{words, words_of, view_of, Fit, SameWords};
 ghost use Rattle.walking.specs.Coming.{StartedBy, Begins, Comes};
 
-use batches::Batches;
-use head::Head;
-use queue::Waiters;
 use reading::FirstLine;
 use replies::Reply;
-use rules::Fairness;
 use script::First;
 use state::{BatchSemaphore, LentWords, Stepped};
 
-// What the first line came to: a fresh state, refusal 12, nothing that it says, or that there is no line.
+// A fresh state that the first line began, and where the next line starts.
 #[derive(Clone, Copy)]
-pub enum Beginning {
-    Fresh,
+pub struct Begun {
+    pub state: BatchSemaphore,
+    pub next: usize,
+}
+
+// Why the first line began none: refusal 12, nothing that it says, or that there is no line.
+#[derive(Clone, Copy)]
+pub enum NotBegun {
     Refused,
     Bad,
     Nothing,
 }
 
-// After the first line: the state, if it began one, and where the next line starts.
-#[derive(Clone, Copy)]
-pub struct Begun {
-    pub how: Beginning,
-    pub state: BatchSemaphore,
-    pub next: usize,
-}
-
-// After a line: whether it said no step; what its step answered, or the state as it was; and where the next line starts.
+// After a line: whether it said no step; what its step answered, or the state as it was; and where the next line starts. No Option of a
+// Stepped: `Comes` says the state after a line that said none, too.
 #[derive(Clone, Copy)]
 pub struct Walked {
     pub bad: bool,
@@ -41,33 +36,6 @@ pub struct Walked {
 }
 
 // ---- the first line
-// What stands where no state began.
-fn no_state() -> BatchSemaphore {
-    let fairness = Fairness::StrictlyFair;
-    let waiters = Waiters::new();
-    let head = Head {
-        fairness,
-        closed: true,
-        stock: 0,
-        waiters,
-        reservation: None,
-        tasks: 0,
-    };
-    let batches = Batches::const_new();
-    BatchSemaphore { head, batches }
-}
-
-fn unbegun(how: Beginning) -> Begun
-    ensures { result.how ≡ how }
-{
-    let state = no_state();
-    Begun {
-        how,
-        state,
-        next: 0,
-    }
-}
-
 // A start that the first line says.
 fn begin_with(
     first: First,
@@ -80,7 +48,7 @@ fn begin_with(
     last: &mut [u32; 16],
     makers: &mut [u32; 512],
     clocks: &mut [u32; 256],
-) -> Begun
+) -> Result<Begun, NotBegun>
     requires { length starts.now ≡ 256 }
     ensures { StartedBy first starts.now next result (words slots.new tasks.new sizes.new rows.new last.new makers.new clocks.new) }
 {
@@ -88,14 +56,12 @@ fn begin_with(
         first, starts, slots, tasks, sizes, rows, last, makers, clocks,
     );
     if r.refused {
-        return unbegun(Beginning::Refused);
+        return Err(NotBegun::Refused);
     }
-    let state = r.state;
-    Begun {
-        how: Beginning::Fresh,
-        state,
+    Ok(Begun {
+        state: r.state,
         next,
-    }
+    })
 }
 
 // What the first line of a script comes to, in words that the caller lends, whatever stands in them.
@@ -108,7 +74,7 @@ pub fn begin(
     last: &mut [u32; 16],
     makers: &mut [u32; 512],
     clocks: &mut [u32; 256],
-) -> Begun
+) -> Result<Begun, NotBegun>
     ensures { Begins script.now result (words slots.new tasks.new sizes.new rows.new last.new makers.new clocks.new) }
 {
     let mut starts = [0u32; 256];
@@ -116,8 +82,8 @@ pub fn begin(
         FirstLine::Is { first, next } => begin_with(
             first, &starts, next, slots, tasks, sizes, rows, last, makers, clocks,
         ),
-        FirstLine::Bad => unbegun(Beginning::Bad),
-        FirstLine::Nothing => unbegun(Beginning::Nothing),
+        FirstLine::Bad => Err(NotBegun::Bad),
+        FirstLine::Nothing => Err(NotBegun::Nothing),
     }
 }
 

@@ -1,8 +1,0 @@
--- Who, and when with a maker.
-use Rattle.fresh.proofs.Starting.{gives-fresh}
-use Rattle.fresh.proofs.begin_made.Goals as goal
-
-pub returns : goal.returns
-returns c =
-    let z = c.requires in
-    gives-fresh _ _ _ z.3.makers _ c.start_who-head.ensures c.start_made-batches.ensures
