@@ -12,7 +12,7 @@ ghost use Rattle.arrays.specs.Arrays.{words_in, Owes};
 use fresh::Started;
 use replies::Refusal;
 use rules::{Act, Fairness, Question, Step, TaskId};
-use state::{BatchSemaphore, LentWords, Stepped};
+use state::{BatchSemaphore, LentWords, ReadWords, Stepped};
 
 // All that a call is lent.
 #[derive(Clone, Copy)]
@@ -69,18 +69,17 @@ pub fn act(s: BatchSemaphore, w: Arrays, me: TaskId, act: Act) -> Came
 pub fn point(s: BatchSemaphore, w: Arrays, me: TaskId, q: Question) -> Result<bool, Refusal>
     ensures { told_by result ≡ answer_to s (words_in w) w.grants me q }
 {
-    let mut arrays = w;
-    let lent = LentWords {
-        slots: &mut arrays.slots,
-        tasks: &mut arrays.tasks,
-        sizes: &mut arrays.sizes,
-        rows: &mut arrays.rows,
-        last: &mut arrays.last,
-        makers: &mut arrays.makers,
-        clocks: &mut arrays.clocks,
-        grants: &mut arrays.grants,
+    let read = ReadWords {
+        slots: &w.slots,
+        tasks: &w.tasks,
+        sizes: &w.sizes,
+        rows: &w.rows,
+        last: &w.last,
+        makers: &w.makers,
+        clocks: &w.clocks,
+        grants: &w.grants,
     };
-    points::point(s, &lent, me, q)
+    points::point(s, read, me, q)
 }
 
 // A fresh state that a task makes.

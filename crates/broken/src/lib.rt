@@ -9,14 +9,14 @@ ghost use Rattle.queue.specs.View.{waiters_of};
 ghost use Rattle.records.specs.View.{request_of};
 ghost use Rattle.words.specs.View.{request_words, task_words, slots_of};
 ghost use Rattle.broken.specs.Weights.{words_at, ask_wrong, named_wrong, other_wrong, request_wrong, weights, weight_of, sum_from, Marks, Weighs, heaviest, broken_slots};
-ghost use Rattle.state.specs.View.{words_of};
+ghost use Rattle.state.specs.View.{words_read};
 ghost use Rattle.broken.specs.Broken.{other_lengths, stray_tasks, misreserved, broken_who, Judged};
 
 use head::Head;
 use queue::Waiters;
 use records::Request;
 use rules::Slot;
-use state::{BatchSemaphore, LentWords};
+use state::{BatchSemaphore, ReadWords};
 
 // ---- a slot's words, from b on: used, asked, least, kind, reserving, task, queued, holding, completed, polled
 // A kind or a mark that stands for nothing, or an ask that 6 or 7 would have refused.
@@ -203,8 +203,8 @@ fn who_is_broken(h: Head, slots: &[u32], tasks: &[u32]) -> bool
 }
 
 // A lent array of another length.
-fn lengths_differ(w: &LentWords) -> bool
-    ensures { result ≡ other_lengths (words_of w.now) w.now.grants.now }
+fn lengths_differ(w: ReadWords) -> bool
+    ensures { result ≡ other_lengths (words_read w.entry) w.entry.grants.now }
 {
     w.slots.len() != 320
         || w.tasks.len() != 32
@@ -217,8 +217,8 @@ fn lengths_differ(w: &LentWords) -> bool
 }
 
 // Whether what is handed in is broken.
-pub fn is_broken(s: BatchSemaphore, w: &LentWords) -> bool
-    ensures { Judged s (words_of w.now) w.now.grants.now result }
+pub fn is_broken(s: BatchSemaphore, w: ReadWords) -> bool
+    ensures { Judged s (words_read w.entry) w.entry.grants.now result }
 {
     lengths_differ(w)
         || s.batches.is_broken(w.sizes, s.head.stock)

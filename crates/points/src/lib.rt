@@ -11,14 +11,14 @@ ghost use Rattle.replies.specs.declared.Refusal.TheVariants.{NoSuchRequest};
 ghost use Rattle.records.specs.View.{Stands};
 ghost use Rattle.words.specs.View.{request_words, slots_of};
 ghost use Rattle.head.specs.View.{plain_of, Shaped};
-ghost use Rattle.state.specs.View.{words_of};
+ghost use Rattle.state.specs.View.{words_read};
 ghost use Rattle.points.specs.Told.{told_by, answer, answer_to};
 
 use head::Head;
 use records::Request;
 use replies::Refusal;
 use rules::{Question, Slot, TaskId};
-use state::{BatchSemaphore, LentWords};
+use state::{BatchSemaphore, ReadWords};
 
 // ---- points, of the request that was read at the slot
 // A poll: when never polled, if strictly fair, holding, closed, or available at least the least.
@@ -116,8 +116,8 @@ pub fn ask(h: Head, slots: &[u32], tasks: &[u32], me: TaskId, q: Question) -> Re
 
 // A question, for any struct, any words and any numbers; 14 where the step itself would give it. Refused: 14, 1, 2; a poll 3 and 4, a drop 3, a
 // try-upgrade 7.
-pub fn point(s: BatchSemaphore, w: &LentWords, me: TaskId, q: Question) -> Result<bool, Refusal>
-    ensures { told_by result ≡ answer_to s (words_of w.now) w.now.grants.now me q }
+pub fn point(s: BatchSemaphore, w: ReadWords, me: TaskId, q: Question) -> Result<bool, Refusal>
+    ensures { told_by result ≡ answer_to s (words_read w.entry) w.entry.grants.now me q }
 {
     if broken::is_broken(s, w) {
         return Err(Refusal::Broken);

@@ -17,7 +17,7 @@ pub fn step(s: BatchSemaphore, w: &mut LentWords, a: Step) -> Stepped
     ensures same { SameWords w.old w.new }
     ensures steps { Steps s (words_of w.old) w.old.grants.now a result (words_of w.new) w.new.grants.now }
 {
-    if broken::is_broken(s, w) {
+    if broken::is_broken(s, w.read()) {
         return Stepped {
             reply: Reply::Refused(Refusal::Broken),
             count: 0,

@@ -27,7 +27,7 @@ fn open(rt: &HostRuntime, path: &[u8]) -> io::Result<File> {
 
 // The file at a path, into the buffer from a place on; the place after it. A file that gave no more bytes is asked once more: a read that
 // failed `read_full` takes for the end.
-fn read_file(rt: &HostRuntime, path: &[u8], bodies: &mut [u8], at: usize) -> Result<usize>
+fn read_file(rt: &HostRuntime, path: &[u8], bodies: &mut [u8], at: usize) -> io::Result<usize>
     requires { at ≤ length bodies.old }
     ensures { IfOk result (λ end. (at ≤ end) × (end ≤ length bodies.old)) }
 {

@@ -17,6 +17,7 @@ use Rattle.batches.specs.View.{Lent, WellFormed}
 use Rattle.times.specs.View.{kept_of}
 use Rattle.state.specs.declared.BatchSemaphore.{BatchSemaphore}
 use Rattle.state.specs.declared.LentWords.{LentWords}
+use Rattle.state.specs.declared.ReadWords.{ReadWords}
 use Rattle.state.specs.declared.Stepped.{Stepped}
 
 -- all words of the state that the caller lends
@@ -40,6 +41,10 @@ words slots tasks sizes rows last makers clocks =
 -- what stands in those that are lent; the grants' are no part of the state
 abbrev pub words_of : LentWords → Words
 words_of w = words w.slots.now w.tasks.now w.sizes.now w.rows.now w.last.now w.makers.now w.clocks.now
+
+-- the same of words that are lent to be read
+abbrev pub words_read : ReadWords → Words
+words_read w = words w.slots.now w.tasks.now w.sizes.now w.rows.now w.last.now w.makers.now w.clocks.now
 
 -- the very arrays are lent that were
 pub record SameWords (w v : LentWords) : Type 0 where

@@ -7,7 +7,7 @@ ghost use Rattle.rules.specs.Sizes.{max_tasks};
 ghost use Rattle.rules.specs.State.{strict as strict_of, available as available_of, stock as stock_of, task_at, request_at};
 ghost use Rattle.splitting.specs.Split.{forget_task};
 ghost use Rattle.records.specs.View.{task_seen};
-ghost use Rattle.state.specs.View.{Words, view_of, RequestRead};
+ghost use Rattle.state.specs.View.{Words, words_of, words_read, view_of, RequestRead};
 
 use batches::Batches;
 use clock::VectorClock;
@@ -41,6 +41,38 @@ pub struct LentWords<'a> {
     pub clocks: &'a mut [u32],
     // room for what a step grants: 32 of 3 words
     pub grants: &'a mut [u32],
+}
+
+// The same words, lent to be read.
+#[derive(Clone, Copy)]
+pub struct ReadWords<'a> {
+    pub slots: &'a [u32],
+    pub tasks: &'a [u32],
+    pub sizes: &'a [u32],
+    pub rows: &'a [u32],
+    pub last: &'a [u32],
+    pub makers: &'a [u32],
+    pub clocks: &'a [u32],
+    pub grants: &'a [u32],
+}
+
+impl LentWords<'_> {
+    // The words as they stand, to be read.
+    pub fn read(&self) -> ReadWords<'_>
+        ensures state { words_read result ≡ words_of self.now }
+        ensures grants { result.grants.now ≡ self.now.grants.now }
+    {
+        ReadWords {
+            slots: self.slots,
+            tasks: self.tasks,
+            sizes: self.sizes,
+            rows: self.rows,
+            last: self.last,
+            makers: self.makers,
+            clocks: self.clocks,
+            grants: self.grants,
+        }
+    }
 }
 
 // What a step answers: its reply, how many grants stand in their words, and the state.
