@@ -16,7 +16,8 @@ ghost use Rattle.batches.specs.Broken.{permits_of, broken_batches};
 
 use clock::VectorClock;
 
-// Where the batches stand in the ring of 64 places: the size and the clock of the batch at place p are sizes[p] and row p of rows.
+// Where the batches stand in the ring of 64 places: the size and the clock of the batch at place p are sizes[p] and row p of rows. Any places
+// may be handed in: 14 sees what no ring has.
 #[derive(Clone, Copy)]
 pub struct PermitClocks {
     pub head: u32,
@@ -102,7 +103,7 @@ impl PermitClocks {
         none.push_back(sizes, rows, size, clock)
     }
 
-    // The front batches that hold n permits are consumed, the last of them in part; their clocks are joined.
+    // The front batches that hold n permits are consumed, the last of them in part; their clocks are joined. Batches go, and none is counted.
     fn consume(self, sizes: &mut [u32], rows: &[u32], n: u32) -> Consumed
         requires { (Lent sizes.old rows.now) × (self.head < batch_count) × (self.count ≤ batch_count) }
         ensures { Ate (ring_of result.permit_clocks sizes.new rows.now) result.clock (eat (batches_of (ring_of self sizes.old rows.now)) n (empty width)) }

@@ -17,7 +17,7 @@ fn last_part(path: &[u8]) -> usize
     at
 }
 
-// The name in a bundle of the file at a path: the path's last part.
+// The name in a bundle of the file at a path: the path's last part. One that is too long is no name but zero bytes, which the writer refuses.
 pub fn named(path: &[u8]) -> [u8; 16]
     ensures { result ≡ name_for path.now }
 {

@@ -28,7 +28,8 @@ pub fn read_full<R: Read>(reader: &mut R, buf: &mut [u8]) -> usize
     done
 }
 
-// Puts an argument at the buffer's start, and answers its length: 0 where there is none, or where it is longer than the buffer.
+// Puts an argument at the buffer's start, and answers its length: 0 where there is none, or where it is longer than the buffer. No Option: the
+// programs do the same with none and with an empty one.
 pub fn arg(rt: &impl Env, i: usize, buf: &mut [u8]) -> usize
     ensures { IsPrefixLen result buf.new }
 {

@@ -159,7 +159,7 @@ pub fn print_line(buf: &mut [u8], at: usize, a: Reply, c: Counts, grants: &[u32]
     text::put(buf, s, b"\n")
 }
 
-// Room for the digits of a byte, of any number, and for an answer.
+// Room for the digits of a byte, of any number, and for an answer: three bounds, which are three facts.
 fn small_room(n: u8) -> usize
     ensures { (length (digits n) ≤ result) × (result ≤ 3) }
 {

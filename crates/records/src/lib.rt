@@ -4,7 +4,7 @@
 
 ghost use Rattle.std.specs.Prelude.{◌≡◌, false, None, Some};
 ghost use Rattle.rules.specs.Task.{is_runnable, is_finished, roused};
-ghost use Rattle.rules.specs.Request.{is_bypassable, is_front, plain_ask, reserving_ask};
+ghost use Rattle.rules.specs.Request.{plain_ask, reserving_ask};
 ghost use Rattle.rules.specs.Steps.{upgrade_ask};
 ghost use Rattle.rules.specs.Refusals.{bad_reserving};
 ghost use Rattle.splitting.specs.Plain.{no_task, blocked, unblocked, wakened, slept, finished, unpolled, queued_as, held, polled_granted, polled_closed, polled_pending};
@@ -116,18 +116,6 @@ impl Task {
 }
 
 // ---- requests
-pub fn is_bypassable(k: Priority) -> bool
-    ensures { result ≡ is_bypassable k }
-{
-    k == Priority::Bypassable
-}
-
-pub fn is_front(k: Priority) -> bool
-    ensures { result ≡ is_front k }
-{
-    k == Priority::Front
-}
-
 // The ask of a request that takes all of its permits or none.
 pub fn plain_ask(kind: Priority, num_permits: u32) -> Ask
     ensures { result ≡ plain_ask kind num_permits }

@@ -16,7 +16,7 @@ use queue::Waiters;
 use records::{Request, Task};
 use rules::{Slot, TaskId};
 
-// What happens to the task of a queued request, unless it is finished.
+// What happens to the task of a queued request, unless it is finished: a value and no closure, since contracts tell by it what becomes of all.
 #[derive(Clone, Copy)]
 pub enum Change {
     // It is woken: everybody may go on.

@@ -45,7 +45,7 @@ pub fn leave(h: Head, slots: &mut [u32], x: Slot) -> Head
     out
 }
 
-// The same where its place in the queue is known.
+// The same where its place in the queue is known: the scan need not look for it.
 fn leave_at(h: Head, slots: &mut [u32], x: Slot, i: usize) -> Head
     requires { (h.waiters.len ≤ slot_count) × (length slots.old ≡ slot_count * request_words) × StandsAt x i (waiters_of h.waiters) }
     ensures { AnyTasks (leave_of x) result slots.new h slots.old }
@@ -85,7 +85,8 @@ fn grant(h: Head, slots: &mut [u32], tasks: &mut [u32], x: Slot, i: usize, r: Re
     out
 }
 
-// The scan: grants what fits, from the front of the queue to the first request that is too large and may not be passed.
+// The scan: grants what fits, from the front of the queue to the first request that is too large and may not be passed. No `for`: the queue
+// shrinks while it is walked.
 pub fn unblock_waiters_from_front(
     h: Head,
     slots: &mut [u32],

@@ -78,7 +78,8 @@ fn two_more(letter: u8, t: u32, n: u32, m: u32) -> Option<Step>
     }
 }
 
-// What a letter says with the numbers that stand in a line from a place on, behind none, the actor t, and a number n more.
+// What a letter says with the numbers that stand in a line from a place on, behind none, the actor t, and a number n more: three functions, since
+// each knows how many came before it.
 fn after_letter(line: &[u8], at: usize, letter: u8) -> Option<Step>
     requires { at ≤ length line.now }
     ensures { result ≡ saying_on letter [] line.now at }

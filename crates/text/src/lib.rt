@@ -22,7 +22,7 @@ pub enum NextLine {
     End,
 }
 
-// The place of the first b at `from` or after it, or the end.
+// The place of the first b at `from` or after it, or the end: what stands before it is a slice either way.
 pub fn find(s: &[u8], from: usize, b: u8) -> usize
     requires { from ≤ length s.now }
     ensures { Found s.now from b result }
@@ -104,7 +104,8 @@ pub fn next_line(s: &[u8], at: usize) -> NextLine
     NextLine::Unended
 }
 
-// Writes w into a buffer from a place on, and answers the place after it.
+// Writes w into a buffer from a place on, and answers the place after it. Buffer and place go apart: a struct that borrows the buffer would add to
+// every clause that the borrow is the same.
 pub fn put(buf: &mut [u8], at: usize, w: &[u8]) -> usize
     requires { at + length w.now ≤ length buf.old }
     ensures { Appended buf.old at w.now buf.new result }
