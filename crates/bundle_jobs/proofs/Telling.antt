@@ -20,8 +20,10 @@ use Rattle.bundle.specs.declared.Contents.{Contents}
 use Rattle.bundle.specs.Contents.{Holds, end_of, Lent}
 use Rattle.bundle.specs.Reads.{Tells, Reads, ReadsCounted}
 use Rattle.bundle.proofs.Said.{rows-held, end-held}
-use Rattle.bundle_jobs.specs.Printed.{refusal_text, scripts_text, rows_text, run_text, list_text, room_for, Behind, PrintsFor}
+use Rattle.bundle_jobs.specs.Printed.{refusal_text, scripts_text, rows_text, run_text, list_text, text_for, room_for, Behind, PrintsFor}
 use Rattle.bundle_jobs.specs.Placing.{rows_in, EndsBy, scripts_at}
+use Rattle.bundle_jobs.specs.declared.Job.{Job}
+use Rattle.bundle_jobs.specs.declared.Job.TheVariants.{Run, List as Listed}
 use Rattle.bundle_jobs.proofs.Standing.{scripts_placed}
 
 -- The room, by a quotient.
@@ -177,8 +179,6 @@ module _ (kept : List ℕ) (more : ℕ) where
           prints_text list_text kept more old (room-there (length old) (length kept) h) a (λ rest b. ap rows_text (rows-held scripts.held) ∙ told list_text rest b) (λ m l. never_few m)
 
 -- a refused bundle prints the same by both
-pub run-refused : (g : Refusal) → run_text (refused g) ≡ refusal_text g
-run-refused g = refl
-
-pub list_refused : (g : Refusal) → list_text (refused g) ≡ refusal_text g
-list_refused g = refl
+pub refused_text : (j : Job) (g : Refusal) → text_for j (refused g) ≡ refusal_text g
+refused_text Run g = refl
+refused_text Listed g = refl

@@ -6,6 +6,8 @@ use Rattle.bundle_rules.specs.declared.Refusal.{Refusal}
 use Rattle.bundle_rules.specs.declared.Refusal.TheVariants.{CutShort}
 use Rattle.bundle_rules.specs.Bundled.{longest, contents_length, Entry, Row, placed}
 use Rattle.bundle_rules.specs.Reading.{number_of, Answer, refused, holds, read_as}
+use Rattle.bundle_jobs.specs.declared.Job.{Job}
+use Rattle.bundle_jobs.specs.declared.Job.TheVariants.{Run, List as Listed}
 
 -- a name without the zero bytes behind it
 abbrev pub name_text : List ℕ → List ℕ
@@ -45,6 +47,11 @@ run_text (holds es) = scripts_text es
 abbrev pub list_text : Answer → List ℕ
 list_text (refused g) = refusal_text g
 list_text (holds es) = rows_text (placed (contents_length (length es)) es)
+
+-- what is printed by what is done
+abbrev pub text_for : Job → Answer → List ℕ
+text_for Run a = run_text a
+text_for Listed a = list_text a
 
 -- so much room is enough: a row of the contents has room for its heading, a body for what it prints, and one byte more for a refusal
 abbrev pub room_for : List ℕ → ℕ
