@@ -5,6 +5,7 @@
 ghost use Rattle.std.specs.Prelude.{◌≤◌};
 ghost use Rattle.filling.specs.Counts.{IsPrefixLen};
 
+use bundle_jobs::Job;
 use std::fs::File;
 use std::io::Result;
 use std::str;
@@ -19,23 +20,6 @@ const BUNDLE: usize = bundle::LONGEST + 1;
 const SCRIPT: usize = 4096;
 
 const TEXT: usize = trace::BYTE_ROOM * SCRIPT;
-
-fn script_room() -> [u8; SCRIPT] {
-    [0u8; SCRIPT]
-}
-
-fn text_room() -> [u8; TEXT] {
-    [0u8; TEXT]
-}
-
-// The same of a bundle.
-fn bundle_room() -> [u8; BUNDLE] {
-    [0u8; BUNDLE]
-}
-
-fn printed_room() -> [u8; bundle_jobs::OUTPUT] {
-    [0u8; bundle_jobs::OUTPUT]
-}
 
 // The file of a name, if it can be opened.
 fn open(rt: &HostRuntime, name: &[u8]) -> Option<File> {
@@ -88,32 +72,23 @@ fn ends(rt: &HostRuntime, i: usize, word: &[u8]) -> bool {
 
 // The script that argument i names, and the text that the next one names.
 fn compare_script(rt: &HostRuntime, i: usize, next: usize) -> Result<()> {
-    let mut script = script_room();
+    let mut script = filling::room::<SCRIPT>();
     let n = read(rt, i, &mut script);
-    let mut text = text_room();
+    let mut text = filling::room::<TEXT>();
     let k = trace::run(&script[..n], &mut text);
-    let mut told = text_room();
+    let mut told = filling::room::<TEXT>();
     let m = read(rt, next, &mut told);
     say(rt, i)?;
     judge(rt, &text[..k], &told[..m])
 }
 
-fn print(bundle: &[u8], list: bool, out: &mut [u8]) -> usize
-    ensures { IsPrefixLen result out.new }
-{
-    if list {
-        return bundle_jobs::list(bundle, 0, out);
-    }
-    bundle_jobs::run(bundle, 0, out)
-}
-
 // The bundle that argument i names, run or listed, and the text that the next one names.
-fn compare_bundle(rt: &HostRuntime, i: usize, next: usize, list: bool) -> Result<()> {
-    let mut bundle = bundle_room();
+fn compare_bundle(rt: &HostRuntime, i: usize, next: usize, job: Job) -> Result<()> {
+    let mut bundle = filling::room::<BUNDLE>();
     let n = read(rt, i, &mut bundle);
-    let mut text = printed_room();
-    let k = print(&bundle[..n], list, &mut text);
-    let mut told = text_room();
+    let mut text = filling::room::<{ bundle_jobs::OUTPUT }>();
+    let k = bundle_jobs::tell(job, &bundle[..n], 0, &mut text);
+    let mut told = filling::room::<TEXT>();
     let m = read(rt, next, &mut told);
     say(rt, next)?;
     judge(rt, &text[..k], &told[..m])
@@ -121,8 +96,12 @@ fn compare_bundle(rt: &HostRuntime, i: usize, next: usize, list: bool) -> Result
 
 fn compare(rt: &HostRuntime, i: usize, next: usize) -> Result<()> {
     if ends(rt, i, b".bundle") {
-        let list = ends(rt, next, b".list");
-        return compare_bundle(rt, i, next, list);
+        let job = if ends(rt, next, b".list") {
+            Job::List
+        } else {
+            Job::Run
+        };
+        return compare_bundle(rt, i, next, job);
     }
     compare_script(rt, i, next)
 }
@@ -137,11 +116,9 @@ fn count(rt: &HostRuntime) -> usize
 fn main(rt: HostRuntime) -> Result<()> {
     trials::tell(&rt)?;
     bundles::tell(&rt)?;
-    let n = count(&rt);
-    let mut i: usize = 1;
-    while i + 1 < n {
-        compare(&rt, i, i + 1)?;
-        i += 2;
+    let pairs = count(&rt).saturating_sub(1) / 2;
+    for pair in 0..pairs {
+        compare(&rt, 2 * pair + 1, 2 * pair + 2)?;
     }
     Ok(())
 }

@@ -1,6 +1,6 @@
 // Runs that no short script reaches: a task's record that is lent, first lines of more than 32,000 entries, and scripts of 65,536 and 65,537
 // bytes.
-ghost use Rattle.std.specs.Prelude.{◌≡◌, length};
+ghost use Rattle.std.specs.Prelude.{◌≤◌};
 
 use records::Task;
 use std::io::Result;
@@ -29,79 +29,56 @@ fn say_altered(rt: &impl Print) -> Result<()> {
     println!(rt)
 }
 
-// Zeros, to put a first line into.
-fn entries() -> [u8; 65536] {
-    [b'0'; 65536]
+// What a script prints.
+fn say_run(rt: &impl Print, script: &[u8]) -> Result<()> {
+    let mut out = filling::room::<{ trace::OUTPUT }>();
+    let k = trace::run(script, &mut out);
+    rt.write_all(&out[..k])
 }
 
-// A first line of 181 tasks, with the 32,761 entries of their clocks and no line feed yet.
-fn put_entries(line: &mut [u8])
-    requires { length line.old ≡ 65536 }
+// What a first line of 181 tasks prints with so many entries of their clocks, each a 0.
+fn say_entries(rt: &impl Print, entries: usize) -> Result<()>
+    requires { entries ≤ 32761 }
 {
-    text::put(line, 0, b"S 1 - 181");
-    let mut i: usize = 9;
-    while i < 65531 {
-        line[i] = b' ';
-        i += 2;
+    let mut line = filling::room::<65536>();
+    line.fill(b'0');
+    text::put(&mut line, 0, b"S 1 - 181");
+    for i in 0..entries {
+        line[9 + 2 * i] = b' ';
     }
+    line[9 + 2 * entries] = b'\n';
+    print!(rt; "181 tasks, {entries} entries: ")?;
+    say_run(rt, &line)
 }
 
-// What such a line prints with all its entries, and with one less.
-fn say_entries(rt: &impl Print) -> Result<()> {
-    let mut line = entries();
-    put_entries(&mut line);
-    line[65531] = b'\n';
-    let mut out = output();
-    let k = trace::run(&line, &mut out);
-    print!(rt; "181 tasks, 32761 entries: ")?;
-    rt.write_all(&out[..k])
-}
-
-fn say_one_less(rt: &impl Print) -> Result<()> {
-    let mut line = entries();
-    put_entries(&mut line);
-    line[65529] = b'\n';
-    let mut out = output();
-    let k = trace::run(&line, &mut out);
-    print!(rt; "181 tasks, 32760 entries: ")?;
-    rt.write_all(&out[..k])
-}
-
-// Line feeds alone: the longest script, and one byte more.
-fn longest() -> [u8; 65536] {
-    [b'\n'; 65536]
-}
-
-fn too_long() -> [u8; 65537] {
-    [b'\n'; 65537]
-}
-
-fn output() -> [u8; trace::OUTPUT] {
-    [0u8; trace::OUTPUT]
-}
-
-// How many bytes the longest script prints, with a first line in front.
-fn say_longest(rt: &impl Print) -> Result<()> {
-    let mut script = longest();
+// A first line, and line feeds alone behind it.
+fn feeds<const N: usize>() -> [u8; N]
+    requires { 8 ≤ N }
+{
+    let mut script = [b'\n'; N];
     text::put(&mut script, 0, b"S 1 0 1\n");
-    let mut out = output();
+    script
+}
+
+// How many bytes the longest script prints.
+fn say_longest(rt: &impl Print) -> Result<()> {
+    let script = feeds::<65536>();
+    let mut out = filling::room::<{ trace::OUTPUT }>();
     let k = trace::run(&script, &mut out);
     println!(rt; "65536 bytes print: {k}")
 }
 
+// What one byte more prints.
 fn say_too_long(rt: &impl Print) -> Result<()> {
-    let mut script = too_long();
-    text::put(&mut script, 0, b"S 1 0 1\n");
-    let mut out = output();
-    let k = trace::run(&script, &mut out);
+    let script = feeds::<65537>();
     print!(rt; "65537 bytes print: ")?;
-    rt.write_all(&out[..k])
+    say_run(rt, &script)
 }
 
 pub fn tell(rt: &impl Print) -> Result<()> {
     say_altered(rt)?;
-    say_entries(rt)?;
-    say_one_less(rt)?;
+    say_entries(rt, 32761)?;
+    say_entries(rt, 32760)?;
     say_longest(rt)?;
     say_too_long(rt)
 }
