@@ -4,19 +4,14 @@ ghost use Rattle.filling.specs.Counts.{IsPrefixLen};
 
 use super::BUNDLE;
 use super::writing::put;
+use bundle_jobs::Job;
 
 // More need not be counted: the count of a bundle has four bytes, so that no table is longer than 4 + 24 * (2^32 - 1) bytes, and of a whole
 // table's bundle it only matters that it is too long.
 const ENOUGH: u64 = 103079215084;
 
-// What is done with a bundle.
-#[derive(Clone, Copy)]
-pub enum Job {
-    Run,
-    List,
-}
-
-// Of standard input so many bytes are kept, and so many more were counted.
+// Of standard input so many bytes are kept, and so many more were counted. No buffer with its length: that `more` goes beside a kept part is
+// how `bundle_jobs` is asked, and the buffer is lent by the caller.
 #[derive(Clone, Copy)]
 struct Got {
     kept: usize,
@@ -31,7 +26,8 @@ fn pass_over(rt: &HostRuntime) -> u64
     filling::read_full(&mut rt.stdin(), &mut space) as u64
 }
 
-// How many bytes are left on standard input, or more than enough: a bundle that is too long is judged by how long it is.
+// How many bytes are left on standard input, or more than enough: a bundle that is too long is judged by how long it is. No `for`: the
+// reader says how far each turn goes.
 fn count_rest(rt: &HostRuntime) -> u64 {
     let mut more = 0;
     while more < ENOUGH {
@@ -52,20 +48,11 @@ fn read(rt: &HostRuntime, buf: &mut [u8]) -> Got
     Got { kept, more }
 }
 
-fn print(bundle: &[u8], more: u64, job: Job, out: &mut [u8]) -> usize
-    ensures { IsPrefixLen result out.new }
-{
-    match job {
-        Job::Run => bundle_jobs::run(bundle, more, out),
-        Job::List => bundle_jobs::list(bundle, more, out),
-    }
-}
-
 // The bundle on standard input, run or listed.
 pub fn show(rt: &HostRuntime, job: Job) {
     let mut bundle = filling::room::<BUNDLE>();
     let got = read(rt, &mut bundle);
     let mut out = filling::room::<{ bundle_jobs::OUTPUT }>();
-    let k = print(&bundle[..got.kept], got.more, job, &mut out);
+    let k = bundle_jobs::tell(job, &bundle[..got.kept], got.more, &mut out);
     put(rt, &out[..k]);
 }

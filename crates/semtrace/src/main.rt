@@ -6,7 +6,7 @@ mod bundles;
 mod packing;
 mod writing;
 
-use bundles::Job;
+use bundle_jobs::Job;
 use writing::put;
 
 // One byte more than a bundle may have: a buffer that is full tells that there is too much.
