@@ -9,7 +9,7 @@ ghost use Rattle.fresh.specs.Starting.{Gives};
 ghost use Rattle.points.specs.Told.{told_by, answer_to};
 ghost use Rattle.arrays.specs.Arrays.{words_in, Owes};
 
-use fresh::Started;
+use fresh::Refused;
 use replies::Refusal;
 use rules::{Act, Fairness, Question, Step, TaskId};
 use state::{BatchSemaphore, LentWords, ReadWords, Stepped};
@@ -37,7 +37,7 @@ pub struct Came {
 // A start, and what it leaves in the arrays.
 #[derive(Clone, Copy)]
 pub struct StartedArrays {
-    pub started: Started,
+    pub started: Result<BatchSemaphore, Refused>,
     pub arrays: Arrays,
 }
 

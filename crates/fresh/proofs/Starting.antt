@@ -1,9 +1,9 @@
 -- A start put together from its parts: who, when, what 12 refuses, and what is accepted.
-use Rattle.std.specs.Prelude.{Option, None, Some, is_some}
+use Rattle.std.specs.Prelude.{Option, None, Some, is_some, Result, Ok, Err}
 use Prim.Native.Nat.{ℕ, zero, suc, ◌*◌, ◌≤◌, ◌<◌}
 use native.Mathlib.Omega.{arith}
 use mathlib.Core.Path.{◌≡◌, refl, sym, ap, ◌∙◌}
-use mathlib.Core.Bool.{Bool, true, false, ◌||◌, or-false, false≢true}
+use mathlib.Core.Bool.{Bool, true, false, ◌||◌}
 use mathlib.Core.List.{List, [], ◌∷◌, map}
 use borrow.Author.Tests.{ltb-false, leb-false, eqb-true, not-false}
 use lib.Dec.{ltb, eqb}
@@ -36,8 +36,9 @@ use Rattle.batches.specs.declared.Batches.{Batches}
 use Rattle.batches.specs.View.{Lent, WellFormed, stands_in, Stood}
 use Rattle.std.proofs.lemmas.Option.{none-some}
 use Rattle.times.specs.View.{clocks_at, clock_in, kept_of}
+use Rattle.state.specs.declared.BatchSemaphore.{BatchSemaphore}
 use Rattle.state.specs.View.{Words, view_of, ShapedAll}
-use Rattle.fresh.specs.declared.Started.{Started}
+use Rattle.fresh.specs.declared.Refused.{Refused}
 use Rattle.fresh.specs.Starting.{bad_sizes, Cleared, idle, Idle, Heard, Begins, Gives}
 use Rattle.fresh.proofs.Clearing.{slots-free, slots-stand, tasks_runnable, tasks-stand, last_empty}
 
@@ -143,7 +144,7 @@ whole-refused = rw (whole-free slot_count)
 module _ (h : Head) (b : Batches) (w : Words) (sized : length w.makers ≡ slot_count * width) where
   pub gives-refused : (last₀ : List ℕ) → Shows h w.slots w.tasks (idle StrictlyFair true 0 0) → b.permit_clocks ≡ None → Cleared w.last last₀ → length last₀ ≡ width
       → Lent w.sizes w.rows → length w.clocks ≡ max_tasks * width
-      → Gives (record { refused = true; state = record { head = h; batches = b } }) w (quiet (refused 12) refused_fresh)
+      → Gives (Err (record { state = record { head = h; batches = b } })) w (quiet (refused 12) refused_fresh)
   gives-refused last₀ s e c l r k =
       let none-heard : Heard w.clocks w.clocks 0 [] = record { sized = refl; first = refl } in
       let g = unmade_starts b w.last last₀ w.clocks w.clocks 0 [] c l none-heard k e w.sizes w.rows r in
@@ -155,7 +156,7 @@ module _ (h : Head) (b : Batches) (w : Words) (sized : length w.makers ≡ slot_
 
   pub gives-fresh : (a : Start) → Shows h w.slots w.tasks (idle a.fairness false a.stock a.tasks)
       → Begins b w.sizes w.rows w.last w.clocks a.tasks (fresh_clocks a.tasks a.tasks a.clocks) (fresh_batches a.stock (fresh_clocks a.tasks a.tasks a.clocks) a.maker)
-      → Gives (record { refused = false; state = record { head = h; batches = b } }) w (quiet done (fresh a))
+      → Gives (Ok (record { head = h; batches = b })) w (quiet done (fresh a))
   unfolding fresh_plain fresh_times idle
   gives-fresh a s g =
       record {
@@ -176,11 +177,11 @@ module _ (a : Start) (bad : Bool) (e : bad ≡ (bad_sizes a.tasks (length a.cloc
   unfolding refuses12
   told = sym e
 
-  pub refused_so : (r : Started) (w : Words) → bad ≡ true → Gives r w (quiet (refused 12) refused_fresh) → Gives r w (start a)
+  pub refused_so : (r : Result BatchSemaphore Refused) (w : Words) → bad ≡ true → Gives r w (quiet (refused 12) refused_fresh) → Gives r w (start a)
   unfolding start
   refused_so r w h g = rw (told, h) g
 
-  pub accepted_so : (r : Started) (w : Words) → bad ≡ false → Gives r w (quiet done (fresh a)) → Gives r w (start a)
+  pub accepted_so : (r : Result BatchSemaphore Refused) (w : Words) → bad ≡ false → Gives r w (quiet done (fresh a)) → Gives r w (start a)
   unfolding start
   accepted_so r w h g = rw (told, h) g
 

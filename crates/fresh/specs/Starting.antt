@@ -1,5 +1,5 @@
 -- What a start answers and what it leaves.
-use Rattle.std.specs.Prelude.{ℕ, ◌*◌, ◌≡◌, Bool, cond, not, ◌||◌, List, [], ltb, eqb, length, get_or, take, replicate, Option, None}
+use Rattle.std.specs.Prelude.{ℕ, ◌*◌, ◌≡◌, Bool, not, ◌||◌, List, [], ltb, eqb, length, get_or, take, replicate, Option, None, Result, Ok, Err}
 use Rattle.rules.specs.declared.Fairness.{Fairness}
 use Rattle.rules.specs.Sizes.{max_tasks, slot_count, width}
 use Rattle.rules.specs.Clock.{Clock, empty}
@@ -15,7 +15,8 @@ use Rattle.batches.specs.declared.Batches.{Batches}
 use Rattle.batches.specs.View.{Lent, WellFormed, stands_in}
 use Rattle.times.specs.View.{clocks_at}
 use Rattle.state.specs.View.{Words, view_of, ShapedAll}
-use Rattle.fresh.specs.declared.Started.{Started}
+use Rattle.state.specs.declared.BatchSemaphore.{BatchSemaphore}
+use Rattle.fresh.specs.declared.Refused.{Refused}
 
 -- refusal 12, but for the maker: tasks 0 or above 16, or a clock list that is not tasks times tasks long
 abbrev pub bad_sizes : ℕ → ℕ → Bool
@@ -71,12 +72,18 @@ pub record Sized (w : Words) : Type 0 where
   pub makers : length w.makers ≡ slot_count * width
   pub clocks : length w.clocks ≡ max_tasks * width
 
--- 12, or done
-abbrev pub answer_of : Started → Answer
-answer_of r = cond r.refused (refused 12) done
+-- done, or 12
+abbrev pub answer_of : Result BatchSemaphore Refused → Answer
+answer_of (Ok s) = done
+answer_of (Err e) = refused 12
+
+-- the state that came out: a refusal gives one back, too
+abbrev pub state_out : Result BatchSemaphore Refused → BatchSemaphore
+state_out (Ok s) = s
+state_out (Err e) = e.state
 
 -- what came out is the rules' outcome: its answer and its state, in a struct and words of their shape
-pub record Gives (r : Started) (w : Words) (o : Outcome) : Type 0 where
+pub record Gives (r : Result BatchSemaphore Refused) (w : Words) (o : Outcome) : Type 0 where
   pub answer : answer_of r ≡ o.answer
-  pub view : view_of r.state w ≡ o.state
-  pub shaped : ShapedAll r.state w
+  pub view : view_of (state_out r) w ≡ o.state
+  pub shaped : ShapedAll (state_out r) w

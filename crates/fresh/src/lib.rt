@@ -1,7 +1,7 @@
 // Fresh states: `new` with a maker and `const_new` with none; refusal 12. The caller lends all words, whatever stands in them.
 #![tactic(auto)]
 
-ghost use Rattle.std.specs.Prelude.{◌≡◌, true, false, ◌||◌, List, ◌++◌, ℕ, ◌+◌, ◌-◌, ◌*◌, ◌≤◌, ◌<◌, length, take, drop, None, Some};
+ghost use Rattle.std.specs.Prelude.{◌≡◌, true, false, ◌||◌, List, ◌++◌, ℕ, ◌+◌, ◌-◌, ◌*◌, ◌≤◌, ◌<◌, length, take, drop, None, Some, Ok, Err};
 ghost use Rattle.rules.specs.Sizes.{max_tasks, slot_count, width};
 ghost use Rattle.rules.specs.Clock.{empty};
 ghost use Rattle.rules.specs.Fresh.{fresh, not_below, refused_fresh};
@@ -21,10 +21,9 @@ use queue::Waiters;
 use rules::{Fairness, TaskId};
 use state::BatchSemaphore;
 
-// Whether 12 refused the start, and the state.
+// What 12 gives back: the state that document 01 names, in the words that were lent.
 #[derive(Clone, Copy)]
-pub struct Started {
-    pub refused: bool,
+pub struct Refused {
     pub state: BatchSemaphore,
 }
 
@@ -146,19 +145,16 @@ fn refuse(
     last: &mut [u32],
     makers: &mut [u32],
     clocks: &mut [u32],
-) -> Started
+) -> Refused
     requires { Sized (record { slots = slots.old; tasks = tasks.old; sizes = sizes.old; rows = rows.old; last = last.old; makers = makers.old; clocks = clocks.old }) }
-    ensures { Gives result (record { slots = slots.new; tasks = tasks.new; sizes = sizes.new; rows = rows.new; last = last.new; makers = makers.new; clocks = clocks.new }) (quiet (refused_with 12) refused_fresh) }
+    ensures { Gives (Err result) (record { slots = slots.new; tasks = tasks.new; sizes = sizes.new; rows = rows.new; last = last.new; makers = makers.new; clocks = clocks.new }) (quiet (refused_with 12) refused_fresh) }
 {
     clear(last);
     let fairness = Fairness::StrictlyFair;
     let head = start_who(fairness, true, 0, 0, slots, tasks);
     let batches = Batches::const_new();
     let state = BatchSemaphore { head, batches };
-    Started {
-        refused: true,
-        state,
-    }
+    Refused { state }
 }
 
 // What is accepted.
@@ -175,17 +171,13 @@ fn begin(
     last: &mut [u32],
     makers: &mut [u32],
     clocks: &mut [u32],
-) -> Started
+) -> BatchSemaphore
     requires { (n ≤ max_tasks) × (length starts.now ≡ n * n) × ((t : TaskId) → maker ≡ Some t → t.0 < n) × (Sized (record { slots = slots.old; tasks = tasks.old; sizes = sizes.old; rows = rows.old; last = last.old; makers = makers.old; clocks = clocks.old })) }
-    ensures { Gives result (record { slots = slots.new; tasks = tasks.new; sizes = sizes.new; rows = rows.new; last = last.new; makers = makers.new; clocks = clocks.new }) (quiet done (fresh (record { fairness = fairness; stock = stock; tasks = n; clocks = starts.now; maker = maker }))) }
+    ensures { Gives (Ok result) (record { slots = slots.new; tasks = tasks.new; sizes = sizes.new; rows = rows.new; last = last.new; makers = makers.new; clocks = clocks.new }) (quiet done (fresh (record { fairness = fairness; stock = stock; tasks = n; clocks = starts.now; maker = maker }))) }
 {
     let head = start_who(fairness, false, stock, n, slots, tasks);
     let batches = start_when(stock, starts, n as usize, maker, sizes, rows, last, clocks);
-    let state = BatchSemaphore { head, batches };
-    Started {
-        refused: false,
-        state,
-    }
+    BatchSemaphore { head, batches }
 }
 
 // A fresh state, made by a task or by none. Refused: 12.
@@ -202,15 +194,16 @@ pub fn start(
     last: &mut [u32; 16],
     makers: &mut [u32; 512],
     clocks: &mut [u32; 256],
-) -> Started
+) -> Result<BatchSemaphore, Refused>
     ensures { Gives result (record { slots = slots.new; tasks = tasks.new; sizes = sizes.new; rows = rows.new; last = last.new; makers = makers.new; clocks = clocks.new }) (start (record { fairness = fairness; stock = stock; tasks = count; clocks = starts.now; maker = maker })) }
 {
     if is_refused(count, starts.len(), maker) {
-        return refuse(slots, tasks, sizes, rows, last, makers, clocks);
+        return Err(refuse(slots, tasks, sizes, rows, last, makers, clocks));
     }
-    begin(
+    let state = begin(
         fairness, stock, count, starts, maker, slots, tasks, sizes, rows, last, makers, clocks,
-    )
+    );
+    Ok(state)
 }
 
 // A fresh state that a task makes: its batches are set up with the maker's clock. Refused: 12.
@@ -227,7 +220,7 @@ pub fn new(
     last: &mut [u32; 16],
     makers: &mut [u32; 512],
     clocks: &mut [u32; 256],
-) -> Started
+) -> Result<BatchSemaphore, Refused>
     ensures { Gives result (record { slots = slots.new; tasks = tasks.new; sizes = sizes.new; rows = rows.new; last = last.new; makers = makers.new; clocks = clocks.new }) (start (record { fairness = fairness; stock = stock; tasks = count; clocks = starts.now; maker = Some maker })) }
 {
     start(
@@ -259,7 +252,7 @@ pub fn const_new(
     last: &mut [u32; 16],
     makers: &mut [u32; 512],
     clocks: &mut [u32; 256],
-) -> Started
+) -> Result<BatchSemaphore, Refused>
     ensures { Gives result (record { slots = slots.new; tasks = tasks.new; sizes = sizes.new; rows = rows.new; last = last.new; makers = makers.new; clocks = clocks.new }) (start (record { fairness = fairness; stock = stock; tasks = count; clocks = starts.now; maker = None })) }
 {
     start(

@@ -3,8 +3,11 @@
 // Which is a const parameter, and each way has a program of its own, since a step that is called from one place alone is compiled into it.
 #![tactic(auto)]
 
+ghost use Rattle.std.specs.Prelude.{◌≡◌};
 ghost use Rattle.state.specs.View.{words_of, Fit, SameWords};
+ghost use Rattle.fresh.specs.Starting.{state_out};
 
+use fresh::Refused;
 use replies::Reply;
 use rules::{Act, Fairness, Slot, Step, TaskId};
 use script::First;
@@ -120,6 +123,16 @@ fn run_on<const BY_CALLS: bool>(
     sum
 }
 
+// The state that a start gives, refused or accepted.
+fn state_of(started: Result<BatchSemaphore, Refused>) -> BatchSemaphore
+    ensures { result ≡ state_out started }
+{
+    match started {
+        Ok(state) => state,
+        Err(refused) => refused.state,
+    }
+}
+
 // The sum of the records, from the state that the first starts with.
 fn run<const BY_CALLS: bool>(first: [u8; RECORD], records: &[[u8; RECORD]]) -> u64 {
     let mut slots = [0u32; 320];
@@ -130,7 +143,7 @@ fn run<const BY_CALLS: bool>(first: [u8; RECORD], records: &[[u8; RECORD]]) -> u
     let mut makers = [0u32; 512];
     let mut clocks = [0u32; 256];
     let mut grants = [0u32; 96];
-    let r = starting::start_spawned(
+    let started = starting::start_spawned(
         first_in(first),
         &mut slots,
         &mut tasks,
@@ -150,7 +163,8 @@ fn run<const BY_CALLS: bool>(first: [u8; RECORD], records: &[[u8; RECORD]]) -> u
         clocks: &mut clocks,
         grants: &mut grants,
     };
-    run_on::<BY_CALLS>(records, r.state, &mut w)
+    let state = state_of(started);
+    run_on::<BY_CALLS>(records, state, &mut w)
 }
 
 // Runs them all, and prints the sum; without a start, 0.

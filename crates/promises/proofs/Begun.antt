@@ -1,4 +1,5 @@
 -- Where the grants are put does not matter to 14; and no fresh state meets it.
+use Rattle.std.specs.Prelude.{Result}
 use Prim.Native.Nat.{ℕ}
 use mathlib.Core.Path.{◌≡◌}
 use mathlib.Core.Bool.{false}
@@ -9,8 +10,8 @@ use Rattle.state.specs.declared.BatchSemaphore.{BatchSemaphore}
 use Rattle.state.specs.View.{Words}
 use Rattle.broken.specs.Broken.{is_broken}
 use Rattle.broken.proofs.Unbroken.{unbroken-fit, fit-unbroken}
-use Rattle.fresh.specs.declared.Started.{Started}
-use Rattle.fresh.specs.Starting.{Gives}
+use Rattle.fresh.specs.declared.Refused.{Refused}
+use Rattle.fresh.specs.Starting.{state_out, Gives}
 use Rattle.fresh.proofs.Starts.{started_shaped, started_sound}
 use Rattle.promises.specs.Calls.{IsRoom}
 
@@ -19,5 +20,5 @@ any_room s w gs e room h =
     let f = unbroken-fit s w gs e in
     fit-unbroken s w room (record { shaped = f.shaped; grants = h; sound = f.sound })
 
-pub started_unbroken : (r : Started) (w : Words) (room : List ℕ) (a : Start) → Gives r w (start a) → IsRoom room → is_broken r.state w room ≡ false
-started_unbroken r w room a g h = fit-unbroken r.state w room (record { shaped = started_shaped r w a g; grants = h; sound = started_sound r w a g })
+pub started_unbroken : (r : Result BatchSemaphore Refused) (w : Words) (room : List ℕ) (a : Start) → Gives r w (start a) → IsRoom room → is_broken (state_out r) w room ≡ false
+started_unbroken r w room a g h = fit-unbroken (state_out r) w room (record { shaped = started_shaped r w a g; grants = h; sound = started_sound r w a g })

@@ -1,5 +1,5 @@
 -- The one theorem: whatever was called after an accepted start, if each call met its contract then all six promises hold.
-use Rattle.std.specs.Prelude.{Some}
+use Rattle.std.specs.Prelude.{Some, Ok}
 use Prim.Native.Nat.{◌+◌}
 use mathlib.Core.Path.{◌≡◌, sym, ap, subst, ◌∙◌}
 use mathlib.Core.Bool.{false}
@@ -10,26 +10,26 @@ use Rattle.rules.specs.Runs.{Said, run}
 use Rattle.rules.specs.Sound.{AddUp}
 use Rattle.rules.specs.Promises.{Each, granted_in, NobodyStranded, CountsFit, GrantFits}
 use Rattle.rules.proofs.Promises.{conservation, batches, nobody_stranded, passed_over, counts_stay, grants_stay, watched-grants}
+use Rattle.state.specs.declared.BatchSemaphore.{BatchSemaphore}
 use Rattle.state.specs.View.{Words}
-use Rattle.fresh.specs.declared.Started.{Started}
 use Rattle.fresh.proofs.Starts.{refused_exactly, accepted-fresh}
 use Rattle.promises.proofs.Begun.{started_unbroken}
 use Rattle.promises.specs.Calls.{Begins, Held, state_of, Call, Calls, left, steps_of, said_by}
 use Rattle.promises.specs.Promised.{Promised}
 use Rattle.promises.proofs.Carried.{Carried, carried}
 
-module _ (a : Start) (r : Started) (w : Words) (b : Begins a r w) (cs : List Call) (k : Calls (record { struct = r.state; words = w }) cs) where
+module _ (a : Start) (m : BatchSemaphore) (w : Words) (b : Begins a m w) (cs : List Call) (k : Calls (record { struct = m; words = w }) cs) where
   abbrev first : Held
-  first = record { struct = r.state; words = w }
+  first = record { struct = m; words = w }
 
   begun : state_of first ≡ fresh a
-  begun = accepted-fresh r w a b.gives b.accepted
+  begun = accepted-fresh m w a b
 
   allowed : refuses12 a ≡ false
-  allowed = sym (refused_exactly r w a b.gives) ∙ b.accepted
+  allowed = sym (refused_exactly (Ok m) w a b)
 
   held : Carried first cs
-  held = carried cs first (λ room e. started_unbroken r w room a b.gives e) k
+  held = carried cs first (λ room e. started_unbroken (Ok m) w room a b e) k
 
   now : state_of (left first cs) ≡ (run (steps_of cs) (fresh a)).state
   now = held.state ∙ ap (λ (s : State). (run (steps_of cs) s).state) begun

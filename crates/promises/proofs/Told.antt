@@ -1,6 +1,6 @@
 -- Useless builds are caught: in each of these runs every result that meets the contract of its call prints this line and grants these counts, so
 -- that no other answer does. The must-fail edits put a wrong answer in the place of a right one, two for each call.
-use Rattle.std.specs.Prelude.{Some}
+use Rattle.std.specs.Prelude.{Some, Ok}
 use Prim.Native.Nat.{ℕ}
 use Prim.Native.String.{String}
 use mathlib.Core.Path.{◌≡◌, refl, ap, ◌∙◌}
@@ -26,9 +26,9 @@ use Rattle.rules.specs.Runs.{step}
 use Rattle.rules.specs.Text.{bytes, joined_by, last_digits, digits}
 use Rattle.rules.specs.Script.{start_with, end_line, outcome_text}
 use Rattle.rules.specs.Promises.{Each}
+use Rattle.state.specs.declared.BatchSemaphore.{BatchSemaphore}
 use Rattle.state.specs.View.{Words, view_of, outcome_of}
 use Rattle.promises.proofs.Begun.{any_room}
-use Rattle.fresh.specs.declared.Started.{Started}
 use Rattle.fresh.proofs.Starts.{accepted-fresh}
 use Rattle.promises.proofs.Begun.{started_unbroken}
 use Rattle.semaphore.proofs.Carried.{step_carried}
@@ -202,13 +202,13 @@ by_rules = (refl, (refl, (refl, (refl, (refl, (refl, (refl, (refl, (refl, (refl,
 
 -- every run of calls that meet their contracts, from a struct that met its own, shows what is wanted
 abbrev pub ToldBy : Case → Type 0
-ToldBy c = (r : Started) (w : Words) → Begins (start_of_case c) r w → (cs : List Call) → Calls (record { struct = r.state; words = w }) cs → steps_of cs ≡ steps c → shown_in cs ≡ wanted c
+ToldBy c = (m : BatchSemaphore) (w : Words) → Begins (start_of_case c) m w → (cs : List Call) → Calls (record { struct = m; words = w }) cs → steps_of cs ≡ steps c → shown_in cs ≡ wanted c
 
 one_told : (c : Case) → shows (steps c) (fresh (start_of_case c)) ≡ wanted c → ToldBy c
-one_told c e r w b cs k same =
-    carried_shown cs (record { struct = r.state; words = w }) (λ room i. started_unbroken r w room (start_of_case c) b.gives i) k
-    ∙ ap (λ (xs : List Step). shows xs (view_of r.state w)) same
-    ∙ ap (λ (s : State). shows (steps c) s) (accepted-fresh r w (start_of_case c) b.gives b.accepted)
+one_told c e m w b cs k same =
+    carried_shown cs (record { struct = m; words = w }) (λ room i. started_unbroken (Ok m) w room (start_of_case c) b i) k
+    ∙ ap (λ (xs : List Step). shows xs (view_of m w)) same
+    ∙ ap (λ (s : State). shows (steps c) s) (accepted-fresh m w (start_of_case c) b)
     ∙ e
 
 each_told : (cs : List Case) → Each (λ (c : Case). shows (steps c) (fresh (start_of_case c)) ≡ wanted c) cs → Each ToldBy cs

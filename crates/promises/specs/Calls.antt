@@ -1,5 +1,5 @@
 -- Calls one after another, told by their contracts alone: how a call comes to its result is no part of it.
-use Rattle.std.specs.Prelude.{ℕ, ◌*◌, ◌≡◌, false, List, [], ◌∷◌, map, length}
+use Rattle.std.specs.Prelude.{ℕ, ◌*◌, ◌≡◌, false, Ok, List, [], ◌∷◌, map, length}
 use Rattle.rules.specs.declared.Step.{Step}
 use Rattle.rules.specs.Sizes.{slot_count}
 use Rattle.rules.specs.State.{State}
@@ -11,7 +11,6 @@ use Rattle.state.specs.declared.BatchSemaphore.{BatchSemaphore}
 use Rattle.state.specs.declared.Stepped.{Stepped}
 use Rattle.state.specs.View.{Words, view_of}
 use Rattle.broken.specs.Broken.{is_broken}
-use Rattle.fresh.specs.declared.Started.{Started}
 use Rattle.fresh.specs.Starting.{Gives}
 use Rattle.semaphore.specs.Contract.{Steps}
 
@@ -31,10 +30,9 @@ IsRoom gs = length gs ≡ slot_count * 3
 abbrev pub Unbroken : Held → Type 0
 Unbroken h = (room : List ℕ) → IsRoom room → is_broken h.struct h.words room ≡ false
 
--- an accepted fresh struct with its words, by `new` or by `const_new`: their contract, and that it was not refused
-pub record Begins (a : Start) (r : Started) (w : Words) : Type 0 where
-  pub gives : Gives r w (start a)
-  pub accepted : r.refused ≡ false
+-- an accepted fresh struct with its words, by `new` or by `const_new`: their contract, of an Ok
+abbrev pub Begins : Start → BatchSemaphore → Words → Type 0
+Begins a s w = Gives (Ok s) w (start a)
 
 -- a step that was asked for, the words lent for its grants, and what came back
 pub record Call : Type 0 where

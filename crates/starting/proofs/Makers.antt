@@ -1,4 +1,5 @@
 -- A start with a maker or without, and with the clocks that stand in words, or spawned ones.
+use Rattle.std.specs.Prelude.{Result}
 use Prim.Native.Nat.{ℕ, ◌≤◌}
 use mathlib.Core.Path.{◌≡◌, sym, subst}
 use mathlib.Core.List.{List}
@@ -6,8 +7,9 @@ use lib.ListN.{length, take}
 use lib.Seq.{length-take-le}
 use Rattle.rules.specs.Spawning.{spawned}
 use Rattle.rules.specs.Runs.{start}
+use Rattle.state.specs.declared.BatchSemaphore.{BatchSemaphore}
 use Rattle.state.specs.View.{Words}
-use Rattle.fresh.specs.declared.Started.{Started}
+use Rattle.fresh.specs.declared.Refused.{Refused}
 use Rattle.fresh.specs.Starting.{Gives}
 use Rattle.script.specs.declared.First.{First}
 use Rattle.script.specs.Opening.{start_said}
@@ -22,8 +24,8 @@ entries-there k n starts l e = rw (l, e) (entries-few k)
 pub entries-length : (k n : ℕ) (starts : List ℕ) → length starts ≡ 256 → n ≡ entries_of k → n ≡ length (take n starts)
 entries-length k n starts l e = sym (length-take-le n starts (entries-there k n starts l e))
 
-pub said_read : (a : First) (starts : List ℕ) (n : ℕ) (r : Started) (w : Words) → n ≡ entries_of a.tasks → Gives r w (start (start_said a (take n starts))) → Gives r w (start (start_read a starts))
+pub said_read : (a : First) (starts : List ℕ) (n : ℕ) (r : Result BatchSemaphore Refused) (w : Words) → n ≡ entries_of a.tasks → Gives r w (start (start_said a (take n starts))) → Gives r w (start (start_read a starts))
 said_read a starts n r w e g = subst (λ (k : ℕ). Gives r w (start (start_said a (take k starts)))) e g
 
-pub said-spawned : (a : First) (starts : List ℕ) (r : Started) (w : Words) → starts ≡ spawned_in a.tasks → Gives r w (start (start_read a starts)) → Gives r w (start (start_said a (spawned a.tasks)))
+pub said-spawned : (a : First) (starts : List ℕ) (r : Result BatchSemaphore Refused) (w : Words) → starts ≡ spawned_in a.tasks → Gives r w (start (start_read a starts)) → Gives r w (start (start_said a (spawned a.tasks)))
 said-spawned a starts r w e g = subst (Gives r w) (same-spawned a starts e) g

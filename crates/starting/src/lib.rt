@@ -9,8 +9,9 @@ ghost use Rattle.fresh.specs.Starting.{Gives};
 ghost use Rattle.script.specs.Opening.{start_said};
 ghost use Rattle.reading.specs.Starts.{start_read};
 
-use fresh::Started;
+use fresh::Refused;
 use script::First;
+use state::BatchSemaphore;
 
 // With starting clocks, row by row.
 fn start_with(
@@ -23,7 +24,7 @@ fn start_with(
     last: &mut [u32; 16],
     makers: &mut [u32; 512],
     clocks: &mut [u32; 256],
-) -> Started
+) -> Result<BatchSemaphore, Refused>
     ensures { Gives result (words slots.new tasks.new sizes.new rows.new last.new makers.new clocks.new) (begun (start_said a starts.now)) }
 {
     fresh::start(
@@ -43,7 +44,7 @@ pub fn start(
     last: &mut [u32; 16],
     makers: &mut [u32; 512],
     clocks: &mut [u32; 256],
-) -> Started
+) -> Result<BatchSemaphore, Refused>
     requires { length starts.now ≡ 256 }
     ensures { Gives result (words slots.new tasks.new sizes.new rows.new last.new makers.new clocks.new) (begun (start_read a starts.now)) }
 {
@@ -71,7 +72,7 @@ pub fn start_spawned(
     last: &mut [u32; 16],
     makers: &mut [u32; 512],
     clocks: &mut [u32; 256],
-) -> Started
+) -> Result<BatchSemaphore, Refused>
     ensures { Gives result (words slots.new tasks.new sizes.new rows.new last.new makers.new clocks.new) (begun (start_said a (spawned a.tasks))) }
 {
     let mut starts = [0u32; 256];

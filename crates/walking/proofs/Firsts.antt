@@ -2,7 +2,7 @@
 use Rattle.std.specs.Prelude.{Option, None, Some, Result, Ok, Err}
 use Prim.Native.Nat.{ℕ, ◌≤◌}
 use native.Mathlib.Omega.{arith}
-use mathlib.Core.Path.{◌≡◌, refl, ap, sym, ◌∙◌}
+use mathlib.Core.Path.{◌≡◌, refl, ap, sym, subst, ◌∙◌}
 use mathlib.Core.Bool.{Bool, true, false, cond}
 use mathlib.Core.List.{List}
 use lib.ListN.{drop}
@@ -13,8 +13,9 @@ use Rattle.rules.specs.Runs.{start}
 use Rattle.rules.specs.Text.{Line, lines}
 use Rattle.rules.specs.Script.{start_of, said}
 use Rattle.rules.proofs.Options.{said-not}
+use Rattle.state.specs.declared.BatchSemaphore.{BatchSemaphore}
 use Rattle.state.specs.View.{Words}
-use Rattle.fresh.specs.declared.Started.{Started}
+use Rattle.fresh.specs.declared.Refused as F
 use Rattle.fresh.specs.Starting.{Gives}
 use Rattle.fresh.proofs.Starts.{refused_exactly, accepted-fresh, started_sound}
 use Rattle.script.specs.declared.First.{First}
@@ -57,20 +58,21 @@ said-bytes f l a e = go l.ended refl
     go false q = absurd (said-not None a (rw q at e) refl)
 
 -- a start that the first line says
-module _ (first : First) (starts : List ℕ) (next : ℕ) (r : Started) (w : Words) (g : Gives r w (start (start_read first starts))) where
-  pub start-refused : r.refused ≡ true → StartedBy first starts next (Err Refused) w
-  start-refused h = sym (refused_exactly r w (start_read first starts) g) ∙ h
+module _ (first : First) (starts : List ℕ) (next : ℕ) (r : Result BatchSemaphore F.Refused) (w : Words) (g : Gives r w (start (start_read first starts))) where
+  pub start-refused : (f : F.Refused) → r ≡ Err f → StartedBy first starts next (Err Refused) w
+  start-refused f e = sym (refused_exactly r w (start_read first starts) g) ∙ rw e refl
 
-  pub start-accepted : r.refused ≡ false → StartedBy first starts next (Ok (record { state = r.state; next = next })) w
-  start-accepted h = (
-    refl,
-    record {
-      accepted = sym (refused_exactly r w (start_read first starts) g) ∙ h;
-      view = accepted-fresh r w (start_read first starts) g h;
-      shaped = g.shaped;
-      sound = started_sound r w (start_read first starts) g;
-    },
-  )
+  pub start-accepted : (s : BatchSemaphore) → r ≡ Ok s → StartedBy first starts next (Ok (record { state = s; next = next })) w
+  start-accepted s e =
+      let h = subst (λ (q : Result BatchSemaphore F.Refused). Gives q w (start (start_read first starts))) e g in (
+        refl,
+        record {
+          accepted = sym (refused_exactly (Ok s) w (start_read first starts) h);
+          view = accepted-fresh s w (start_read first starts) h;
+          shaped = h.shaped;
+          sound = started_sound (Ok s) w (start_read first starts) h;
+        },
+      )
 
 -- what was read of it, and what came of that
 pub begins-start : (script : List ℕ) (first : First) (next : ℕ) (starts : List ℕ) (w : Words) (r : Result Begun NotBegun) → StartAt script first next starts

@@ -52,16 +52,13 @@ fn begin_with(
     requires { length starts.now ≡ 256 }
     ensures { StartedBy first starts.now next result (words slots.new tasks.new sizes.new rows.new last.new makers.new clocks.new) }
 {
-    let r = starting::start(
+    let started = starting::start(
         first, starts, slots, tasks, sizes, rows, last, makers, clocks,
     );
-    if r.refused {
-        return Err(NotBegun::Refused);
+    match started {
+        Ok(state) => Ok(Begun { state, next }),
+        Err(_) => Err(NotBegun::Refused),
     }
-    Ok(Begun {
-        state: r.state,
-        next,
-    })
 }
 
 // What the first line of a script comes to, in words that the caller lends, whatever stands in them.

@@ -8,8 +8,8 @@ pub returns-then-is_refused : goal.returns-then-is_refused
 returns-then-is_refused c =
     refused_so _ _ c.is_refused.ensures _ _ c.if-is_refused.true c.refuse.ensures
 
-pub begin-requires : goal.begin-requires
-begin-requires c =
+pub begin-state-requires : goal.begin-state-requires
+begin-state-requires c =
     let a = c.args in
     let asked : Start = record { fairness = a.fairness; stock = a.stock; tasks = a.count; clocks = a.starts.now; maker = a.maker } in
     let e = c.is_refused.ensures in
@@ -18,4 +18,4 @@ begin-requires c =
 
 pub returns : goal.returns
 returns c =
-    accepted_so _ _ c.is_refused.ensures _ _ c.if-is_refused.false c.begin.ensures
+    accepted_so _ _ c.is_refused.ensures _ _ c.if-is_refused.false c.begin-state.ensures

@@ -3,8 +3,8 @@ use borrow.Author.Rules.{rules}
 use Rattle.walking.proofs.Firsts.{start-refused, start-accepted}
 use Rattle.walking.proofs.begin_with.Goals as goal
 
-pub returns-then-r : goal.returns-then-r
-returns-then-r c = search (start-refused, rules)
+pub returns-in-Err : goal.returns-in-Err
+returns-in-Err c = search (start-refused, rules)
 
-pub returns : goal.returns
-returns c = search (start-accepted, rules)
+pub returns-in-Ok : goal.returns-in-Ok
+returns-in-Ok c = search (start-accepted, rules)
