@@ -13,7 +13,8 @@ pub fn room<const N: usize>() -> [u8; N] {
     [0u8; N]
 }
 
-// Reads until the buffer is full, the input ends or a read fails; answers how many bytes it put at the buffer's start.
+// Reads until the buffer is full, the input ends or a read fails; answers how many bytes it put at the buffer's start. No `for`: the reader
+// says how far each turn goes.
 pub fn read_full<R: Read>(reader: &mut R, buf: &mut [u8]) -> usize
     ensures { IsPrefixLen result buf.new }
 {

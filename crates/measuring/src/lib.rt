@@ -26,6 +26,8 @@ fn number(low: u8, high: u8) -> u32 {
     u32::from(u16::from_le_bytes([low, high]))
 }
 
+// A record's bytes are what the driver writes, and every byte means something: they are decoded here, and none is refused.
+
 // What the record of a kind says, with its two numbers.
 fn act(kind: u8, a: u32, b: u32, slot: u8) -> Act {
     match kind {

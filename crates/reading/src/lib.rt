@@ -60,7 +60,8 @@ pub fn read_line(script: &[u8], at: usize) -> ReadLine
 }
 
 // ---- starts
-// How many entries the starting clocks of so many tasks have; none where 12 refuses so many tasks whatever their clocks.
+// How many entries the starting clocks of so many tasks have; none where 12 refuses so many tasks whatever their clocks. No Option:
+// `start_read` takes so many of the words, and there it takes none.
 pub fn entries_of(tasks: u32) -> usize
     ensures { result ≡ entries_of tasks }
 {
@@ -87,7 +88,8 @@ fn keep(starts: &mut [u32; 256], n: usize, x: u32) -> usize
     n + 1
 }
 
-// The numbers of a line from a place on, every one of them counted; none where a field says no number.
+// The numbers of a line from a place on, every one of them counted; none where a field says no number. No `for`: each field says where the
+// next one starts.
 fn read_clocks(line: &[u8], from: usize, starts: &mut [u32; 256]) -> Option<usize>
     requires { from ≤ length line.now }
     ensures { ClocksTo line.now from result starts.new }

@@ -1,5 +1,6 @@
 // What a step came to as text, in the oracle's form (oracle/README.md): the script program's line, and behind it the whole state as rows of
-// numbers. Nothing here is part of the promises: it is one side of the comparison with the Rust. What does not fit a buffer is not written.
+// numbers. A row's kind is a number, 0 to 11, as that form has it, and not an enum. Nothing here is part of the promises: it is one side of
+// the comparison with the Rust. What does not fit a buffer is not written.
 #![tactic(auto)]
 
 ghost use Rattle.std.specs.Prelude.{◌≤◌};

@@ -45,7 +45,7 @@ fn print_walked(out: &mut [u8], n: usize, r: Walked, grants: &[u32]) -> usize
     print_step(out, n, r.out, grants)
 }
 
-// The lines from a place on.
+// The lines from a place on. No `for`: each line says where the next one starts.
 fn run_lines(
     script: &[u8],
     from: usize,
