@@ -17,10 +17,6 @@ struct Tally {
     pub from: usize,
 }
 
-fn add(n: u64, b: bool) -> u64 {
-    n.wrapping_add(u64::from(b))
-}
-
 // Whether the text for a line of a script begins at a place: there begins a line, and not with a space.
 fn begins(text: &[u8], i: usize) -> bool {
     byte_at(text, i) != b' ' && (i == 0 || byte_at(text, i - 1) == b'\n')
@@ -32,8 +28,8 @@ fn begun(t: Tally, i: usize, letter: u8) -> Tally {
     out.line = t.line.wrapping_add(1);
     out.from = i;
     if 0 < t.line {
-        out.steps = add(t.steps, letter != b'b');
-        out.refused = add(t.refused, letter == b'r');
+        out.steps = t.steps.wrapping_add(u64::from(letter != b'b'));
+        out.refused = t.refused.wrapping_add(u64::from(letter == b'r'));
     }
     out
 }

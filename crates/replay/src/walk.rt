@@ -88,7 +88,7 @@ fn emptied(rt: &impl Print, buf: &[u8], at: usize, limit: usize) -> Result<usize
     Ok(0)
 }
 
-// The lines from a place on.
+// The lines from a place on. No `for`: each line says where the next one starts.
 fn run_lines(
     rt: &impl Print,
     script: &[u8],
