@@ -1,15 +1,17 @@
 // Buffers of a fixed size that a program has filled: with what a reader gives, or with an argument.
 #![tactic(auto)]
 
-ghost use Rattle.std.specs.Prelude.{◌≤◌};
+ghost use Rattle.std.specs.Prelude.{◌≡◌, ◌≤◌, replicate};
 ghost use Rattle.filling.specs.Counts.{IsPrefixLen};
 
 use std::env::FillError;
 use std::io::Read;
 use std::rt::Env;
 
-// An empty buffer. Its contract leaves open what stands there: a check that sees a long literal of zeros writes it out.
-pub fn room<const N: usize>() -> [u8; N] {
+// An empty buffer: zeros. Programs make theirs by it, since a check that sees a long literal of zeros writes it out.
+pub fn room<const N: usize>() -> [u8; N]
+    ensures { result ≡ replicate N 0 }
+{
     [0u8; N]
 }
 
