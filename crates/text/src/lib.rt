@@ -71,6 +71,8 @@ pub fn number_of(field: &[u8]) -> Option<u32>
 {
     match field {
         [] | [b'0', _, ..] => None,
+        // an arm of its own, though it is the last one's: a number of one digit is then read without a test for overflow
+        [_] => digits_of(field),
         _ => digits_of(field),
     }
 }
