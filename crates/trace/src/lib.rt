@@ -6,13 +6,12 @@ ghost use Rattle.rules.specs.Sizes.{slot_count};
 ghost use Rattle.rules.specs.Text.{lines};
 ghost use Rattle.rules.specs.Script.{outcome_text, trace as traced, program, printed};
 ghost use Rattle.state.specs.View.{Words, words_of, view_of, outcome_of, Fit};
-ghost use Rattle.walking.specs.Coming.{text_of, came};
 ghost use Rattle.text.specs.Writing.{Appended};
 ghost use Rattle.trace.specs.Running.{first_of, Prints};
 
 use replies::Reply;
 use state::{BatchSemaphore, LentWords, Stepped};
-use walking::{NotBegun, Walked};
+use walking::NotBegun;
 
 // The most bytes that a script may have, and one more, which tells that it is too long.
 pub const LONGEST: usize = 65536;
@@ -34,17 +33,6 @@ fn print_step(out: &mut [u8], n: usize, r: Stepped, grants: &[u32]) -> usize
     printing::print_line(out, n, r.reply, c, grants, r.count)
 }
 
-// The line of what a line came to.
-fn print_walked(out: &mut [u8], n: usize, r: Walked, grants: &[u32]) -> usize
-    requires { (r.out.count ≤ slot_count) × (length grants.now ≡ slot_count * 3) × ((w : Words) → n + length (text_of (came r w grants.now)) ≤ length out.old) }
-    ensures { (w : Words) → Appended out.old n (text_of (came r w grants.now)) out.new result }
-{
-    if r.bad {
-        return text::put(out, n, b"bad\n");
-    }
-    print_step(out, n, r.out, grants)
-}
-
 // The lines from a place on. No `for`: each line says where the next one starts.
 fn run_lines(
     script: &[u8],
@@ -62,10 +50,15 @@ fn run_lines(
     let mut n = start;
     while at < script.len() {
         let r = walking::walk(script, at, s, w);
-        // by name first, as in `stepping`
-        let grants = &mut *w.grants;
-        n = print_walked(out, n, r, grants);
-        s = r.out.state;
+        // what a line that said no step leaves is not looked at: it is the state as it was
+        if r.bad {
+            n = text::put(out, n, b"bad\n");
+        } else {
+            // by name first, as in `stepping`
+            let grants = &mut *w.grants;
+            n = print_step(out, n, r.out, grants);
+            s = r.out.state;
+        }
         at = r.next;
     }
     n

@@ -2,7 +2,7 @@
 // Whoever runs a script runs it here; what is printed, compared or drawn is read off what a line came to.
 #![tactic(auto)]
 
-ghost use Rattle.std.specs.Prelude.{◌≡◌, ◌<◌, length};
+ghost use Rattle.std.specs.Prelude.{◌≡◌, true, ◌<◌, length};
 ghost use Rattle.state.specs.View.{words, words_of, view_of, Fit, SameWords};
 ghost use Rattle.walking.specs.Coming.{StartedBy, Begins, Comes};
 
@@ -101,25 +101,20 @@ pub fn walk(script: &[u8], at: usize, s: BatchSemaphore, w: &mut LentWords) -> W
     requires { (at < length script.now) × Fit s (words_of w.old) w.old.grants.now }
     ensures same { SameWords w.old w.new }
     ensures comes { Comes script.now at (view_of s (words_of w.old)) result (words_of w.new) w.new.grants.now }
+    ensures stays { result.bad ≡ true → result.out.state ≡ s }
 {
     let l = reading::read_line(script, at);
-    let said = l.said;
-    match said {
-        Some(a) => {
-            let out = stepping::step_on(s, w, a);
-            Walked {
-                bad: false,
-                out,
-                next: l.next,
-            }
-        }
-        None => {
-            let out = stay(s);
-            Walked {
-                bad: true,
-                out,
-                next: l.next,
-            }
-        }
+    let Some(a) = l.said else {
+        return Walked {
+            bad: true,
+            out: stay(s),
+            next: l.next,
+        };
+    };
+    let out = stepping::step_on(s, w, a);
+    Walked {
+        bad: false,
+        out,
+        next: l.next,
     }
 }
