@@ -8,7 +8,7 @@ use std::env::FillError;
 use std::io::Read;
 use std::rt::Env;
 
-// An empty buffer: zeros. Programs make theirs by it, since a check that sees a long literal of zeros writes it out.
+// An empty buffer: zeros. Programs make their longest by it, since a check that sees a long literal of zeros writes it out.
 pub fn room<const N: usize>() -> [u8; N]
     ensures { result ≡ replicate N 0 }
 {
