@@ -71,7 +71,7 @@ pub fn number_of(field: &[u8]) -> Option<u32>
 {
     match field {
         [] | [b'0', _, ..] => None,
-        // an arm of its own, though it is the last one's: a number of one digit is then read without a test for overflow
+        // an arm of its own, though it is the last one's: so compiled, a number of one digit costs less to read
         [_] => digits_of(field),
         _ => digits_of(field),
     }
