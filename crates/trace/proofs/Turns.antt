@@ -5,6 +5,7 @@ use mathlib.Core.Path.{◌≡◌, refl, ap, sym, ◌∙◌}
 use mathlib.Core.Bool.{Bool, true, false, cond}
 use mathlib.Core.List.{List, [], ◌∷◌, ◌++◌, append_assoc, append-nil}
 use lib.ListN.{length, drop}
+use Rattle.rules.specs.Sizes.{slot_count}
 use Rattle.rules.specs.State.{State}
 use Rattle.rules.specs.Text.{lines}
 use Rattle.rules.specs.Script.{outcome_text, trace}
@@ -12,6 +13,7 @@ use Rattle.rules.proofs.Scripts.{trace_done}
 use Rattle.splitting.specs.Split.{forget, whole}
 use Rattle.text.specs.Writing.{Appended}
 use Rattle.text.proofs.Buffer.{appended_none, appended_length, appended_then}
+use Rattle.replies.specs.declared.Reply.{Reply}
 use Rattle.replies.specs.Answers.{answer_of}
 use Rattle.words.specs.View.{grants_of}
 use Rattle.head.specs.View.{plain_of}
@@ -19,7 +21,8 @@ use Rattle.state.specs.declared.BatchSemaphore.{BatchSemaphore}
 use Rattle.state.specs.declared.Stepped.{Stepped}
 use Rattle.state.specs.View.{Words, words, view_of, outcome_of}
 use Rattle.walking.specs.declared.Walked.{Walked}
-use Rattle.walking.specs.Coming.{text_of, came, Comes}
+use Rattle.walking.specs.declared.Answered.{Answered}
+use Rattle.walking.specs.Coming.{text_of, came, walked, Comes}
 use Rattle.walking.proofs.Printed.{traced}
 use Rattle.printing.specs.declared.Counts.{Counts}
 use Rattle.printing.specs.Printed.{line_text, ShownBy}
@@ -54,22 +57,6 @@ module _ (r : Stepped) (c : Counts) (gs old : List ℕ) (n : ℕ) (h : (slots ta
 
   pub step-printed : (new : List ℕ) (e : ℕ) → Appended old n (line_text (answer_of r.reply) c (grants_of r.count gs)) new e → (w : Words) → Appended old n (outcome_text (outcome_of r w gs)) new e
   step-printed new e p w = rw (line_is w) at p
-
--- a line that said no step, and one that did
-module _ (r : Walked) (n : ℕ) (gs old : List ℕ) where
-  module _ (q : r.bad ≡ true) where
-    pub bad-room : ((w : Words) → n + length (text_of (came r w gs)) ≤ length old) → n + 4 ≤ length old
-    bad-room f = rw q at (f (words [] [] [] [] [] [] []))
-
-    pub bad_walked : (new : List ℕ) (e : ℕ) → Appended old n (98 ∷ 97 ∷ 100 ∷ 10 ∷ []) new e → (w : Words) → Appended old n (text_of (came r w gs)) new e
-    bad_walked new e a w = rw q a
-
-  module _ (q : r.bad ≡ false) where
-    pub said-room : ((w : Words) → n + length (text_of (came r w gs)) ≤ length old) → (w : Words) → n + length (outcome_text (outcome_of r.out w gs)) ≤ length old
-    said-room f w = rw q at (f w)
-
-    pub said_walked : (new : List ℕ) (e : ℕ) → ((w : Words) → Appended old n (outcome_text (outcome_of r.out w gs)) new e) → (w : Words) → Appended old n (text_of (came r w gs)) new e
-    said_walked new e p w = rw q (p w)
 
 -- before the first turn
 pub onward_none : {script : List ℕ} {at : ℕ} {s : State} {old : List ℕ} {n : ℕ} → n + length (trace s (lines (drop at script))) ≤ length old → Onward script at s old n at s old n
@@ -113,3 +100,27 @@ module _ {script : List ℕ} {from : ℕ} {first : State} {old : List ℕ} {star
       let d : o.text ≡ trace first (lines (drop from script)) =
       sym (append-nil o.text) ∙ ap (λ (x : List ℕ). o.text ++ x) (sym (trace_done s script at l)) ∙ o.left in
       rw d at o.printed
+
+-- the line at the place reached, as it was answered
+module _ (r : Answered) (s : BatchSemaphore) {before : State} {script : List ℕ} {from : ℕ} {first : State} {old : List ℕ} {start at : ℕ} {w : Words} {gs out : List ℕ} {n : ℕ} (o : Onward script from first old start at before out n) (c : Comes script at before (walked r s) w gs) where
+  -- it said no step
+  module _ (e : r.answer ≡ None) where
+    pub bad-room : n + 4 ≤ length out
+    bad-room = rw e at (line-room o c w)
+
+    pub bad_walked : {new : List ℕ} {m : ℕ} → Appended out n (98 ∷ 97 ∷ 100 ∷ 10 ∷ []) new m → Onward script from first old start r.next (view_of s w) new m
+    bad_walked {new} {m} p = onward_more o c {new = new} {e = m} (λ (u : Words). rw e p)
+
+  -- it said one
+  module _ {a : Reply × ℕ} (e : r.answer ≡ Some a) where
+    abbrev stepped : Stepped
+    stepped = record { reply = a.0; count = a.1; state = s }
+
+    pub said-few : a.1 ≤ slot_count
+    said-few = rw e at c.few
+
+    pub said-room : (u : Words) → n + length (outcome_text (outcome_of stepped u gs)) ≤ length out
+    said-room u = rw e at (line-room o c u)
+
+    pub said_walked : {new : List ℕ} {m : ℕ} → ((u : Words) → Appended out n (outcome_text (outcome_of stepped u gs)) new m) → Onward script from first old start r.next (view_of s w) new m
+    said_walked {new} {m} p = onward_more o c {new = new} {e = m} (λ (u : Words). rw e (p u))

@@ -49,15 +49,19 @@ fn run_lines(
     let mut s = first;
     let mut n = start;
     while at < script.len() {
-        let r = walking::walk(script, at, s, w);
-        // what a line that said no step leaves is not looked at: it is the state as it was
-        if r.bad {
-            n = text::put(out, n, b"bad\n");
-        } else {
-            // by name first, as in `stepping`
-            let grants = &mut *w.grants;
-            n = print_step(out, n, r.out, grants);
-            s = r.out.state;
+        let r = walking::walk_lent(script, at, &mut s, w);
+        match r.answer {
+            Some((reply, count)) => {
+                let stepped = Stepped {
+                    reply,
+                    count,
+                    state: s,
+                };
+                // by name first, as in `stepping`
+                let grants = &mut *w.grants;
+                n = print_step(out, n, stepped, grants);
+            }
+            None => n = text::put(out, n, b"bad\n"),
         }
         at = r.next;
     }

@@ -1,5 +1,5 @@
 -- What the lines of a script come to, by the rules and as answered.
-use Rattle.std.specs.Prelude.{ℕ, ◌+◌, ◌≤◌, ◌<◌, ◌≡◌, true, false, cond, List, [], ◌∷◌, length, drop, Option, None, Some, option_map, Result, Ok, Err}
+use Rattle.std.specs.Prelude.{ℕ, ◌+◌, ◌≤◌, ◌<◌, ◌≡◌, true, false, cond, List, [], ◌∷◌, length, drop, Option, None, Some, is_none, option_map, unwrap_or, Result, Ok, Err}
 use Rattle.rules.specs.declared.Step.{Step}
 use Rattle.rules.specs.Sizes.{slot_count}
 use Rattle.rules.specs.State.{State}
@@ -10,6 +10,7 @@ use Rattle.rules.specs.Runs.{step}
 use Rattle.rules.specs.Text.{bytes, Line, lines}
 use Rattle.rules.specs.Script.{start_of, step_of, said, end_line, outcome_text}
 use Rattle.script.specs.declared.First.{First}
+use Rattle.replies.specs.declared.Reply.TheVariants.{Done}
 use Rattle.state.specs.declared.BatchSemaphore.{BatchSemaphore}
 use Rattle.state.specs.View.{Words, view_of, outcome_of, ShapedAll, Fit}
 use Rattle.reading.specs.Steps.{line_bytes}
@@ -18,6 +19,7 @@ use Rattle.walking.specs.declared.Begun.{Begun}
 use Rattle.walking.specs.declared.NotBegun.{NotBegun}
 use Rattle.walking.specs.declared.NotBegun.TheVariants.{Refused, Bad, Nothing}
 use Rattle.walking.specs.declared.Walked.{Walked}
+use Rattle.walking.specs.declared.Answered.{Answered}
 
 -- A LINE comes to the outcome of the step that it says, or to nothing: then it prints `bad`, and changes nothing.
 
@@ -35,6 +37,15 @@ text_of (Some o) = outcome_text o
 -- what was answered
 abbrev pub came : Walked → Words → List ℕ → Option Outcome
 came r w gs = cond r.bad None (Some (outcome_of r.out w gs))
+
+-- what was answered to a line, or none, and the struct after it, as what the line came to
+abbrev pub walked : Answered → BatchSemaphore → Walked
+walked r s =
+    record {
+      bad = is_none r.answer;
+      out = record { reply = (unwrap_or r.answer (Done, 0)).0; count = (unwrap_or r.answer (Done, 0)).1; state = s };
+      next = r.next;
+    }
 
 -- The line at a place of a script, on the state s: what was answered is what it comes to, and the state after it is such a state again.
 pub record Comes (script : List ℕ) (at : ℕ) (s : State) (r : Walked) (w : Words) (gs : List ℕ) : Type 0 where

@@ -2,9 +2,9 @@
 // Whoever runs a script runs it here; what is printed, compared or drawn is read off what a line came to.
 #![tactic(auto)]
 
-ghost use Rattle.std.specs.Prelude.{◌≡◌, true, ◌<◌, length};
+ghost use Rattle.std.specs.Prelude.{◌≡◌, None, true, ◌<◌, length};
 ghost use Rattle.state.specs.View.{words, words_of, view_of, Fit, SameWords};
-ghost use Rattle.walking.specs.Coming.{StartedBy, Begins, Comes};
+ghost use Rattle.walking.specs.Coming.{StartedBy, Begins, walked, Comes};
 
 use reading::FirstLine;
 use replies::Reply;
@@ -32,6 +32,14 @@ pub enum NotBegun {
 pub struct Walked {
     pub bad: bool,
     pub out: Stepped,
+    pub next: usize,
+}
+
+// After a line, where the struct is lent: what its step answered and how many it granted, or none where it says no step; and where the next
+// line starts.
+#[derive(Clone, Copy)]
+pub struct Answered {
+    pub answer: Option<(Reply, usize)>,
     pub next: usize,
 }
 
@@ -85,36 +93,46 @@ pub fn begin(
 }
 
 // ---- each other line
-// A line that says no step changes nothing.
-fn stay(s: BatchSemaphore) -> Stepped
-    ensures { (result.state ≡ s) × (result.count ≡ 0) }
+// What the line at a place of a script comes to, on a state that 14 does not refuse. The struct is lent too: a line that says no step leaves
+// it alone, and nothing is copied for it.
+pub fn walk_lent(script: &[u8], at: usize, s: &mut BatchSemaphore, w: &mut LentWords) -> Answered
+    requires { (at < length script.now) × Fit s.old (words_of w.old) w.old.grants.now }
+    ensures same { SameWords w.old w.new }
+    ensures comes { Comes script.now at (view_of s.old (words_of w.old)) (walked result s.new) (words_of w.new) w.new.grants.now }
+    ensures stays { result.answer ≡ None → s.new ≡ s.old }
 {
-    Stepped {
-        reply: Reply::Done,
-        count: 0,
-        state: s,
+    let l = reading::read_line(script, at);
+    let Some(a) = l.said else {
+        return Answered {
+            answer: None,
+            next: l.next,
+        };
+    };
+    let r = stepping::step_on(*s, w, a);
+    *s = r.state;
+    Answered {
+        answer: Some((r.reply, r.count)),
+        next: l.next,
     }
 }
 
-// What the line at a place of a script comes to, on a state that 14 does not refuse.
+// The same, with the struct by value.
 pub fn walk(script: &[u8], at: usize, s: BatchSemaphore, w: &mut LentWords) -> Walked
     requires { (at < length script.now) × Fit s (words_of w.old) w.old.grants.now }
     ensures same { SameWords w.old w.new }
     ensures comes { Comes script.now at (view_of s (words_of w.old)) result (words_of w.new) w.new.grants.now }
     ensures stays { result.bad ≡ true → result.out.state ≡ s }
 {
-    let l = reading::read_line(script, at);
-    let Some(a) = l.said else {
-        return Walked {
-            bad: true,
-            out: stay(s),
-            next: l.next,
-        };
-    };
-    let out = stepping::step_on(s, w, a);
+    let mut state = s;
+    let r = walk_lent(script, at, &mut state, w);
+    let (reply, count) = r.answer.unwrap_or((Reply::Done, 0));
     Walked {
-        bad: false,
-        out,
-        next: l.next,
+        bad: r.answer.is_none(),
+        out: Stepped {
+            reply,
+            count,
+            state,
+        },
+        next: r.next,
     }
 }
