@@ -21,7 +21,7 @@ use Rattle.state.specs.declared.BatchSemaphore.{BatchSemaphore}
 use Rattle.state.specs.declared.Stepped.{Stepped}
 use Rattle.state.specs.View.{Words, words, view_of, outcome_of}
 use Rattle.walking.specs.declared.Walked.{Walked}
-use Rattle.walking.specs.declared.Answered.{Answered}
+use Rattle.walking.specs.declared.WalkedLent.{WalkedLent}
 use Rattle.walking.specs.Coming.{text_of, came, walked, Comes}
 use Rattle.walking.proofs.Printed.{traced}
 use Rattle.printing.specs.declared.Counts.{Counts}
@@ -102,7 +102,7 @@ module _ {script : List ℕ} {from : ℕ} {first : State} {old : List ℕ} {star
       rw d at o.printed
 
 -- the line at the place reached, as it was answered
-module _ (r : Answered) (s : BatchSemaphore) {before : State} {script : List ℕ} {from : ℕ} {first : State} {old : List ℕ} {start at : ℕ} {w : Words} {gs out : List ℕ} {n : ℕ} (o : Onward script from first old start at before out n) (c : Comes script at before (walked r s) w gs) where
+module _ (r : WalkedLent) (s : BatchSemaphore) {before : State} {script : List ℕ} {from : ℕ} {first : State} {old : List ℕ} {start at : ℕ} {w : Words} {gs out : List ℕ} {n : ℕ} (o : Onward script from first old start at before out n) (c : Comes script at before (walked r s) w gs) where
   -- it said no step
   module _ (e : r.answer ≡ None) where
     pub bad-room : n + 4 ≤ length out

@@ -19,7 +19,7 @@ use Rattle.walking.specs.declared.Begun.{Begun}
 use Rattle.walking.specs.declared.NotBegun.{NotBegun}
 use Rattle.walking.specs.declared.NotBegun.TheVariants.{Refused, Bad, Nothing}
 use Rattle.walking.specs.declared.Walked.{Walked}
-use Rattle.walking.specs.declared.Answered.{Answered}
+use Rattle.walking.specs.declared.WalkedLent.{WalkedLent}
 
 -- A LINE comes to the outcome of the step that it says, or to nothing: then it prints `bad`, and changes nothing.
 
@@ -39,7 +39,7 @@ abbrev pub came : Walked → Words → List ℕ → Option Outcome
 came r w gs = cond r.bad None (Some (outcome_of r.out w gs))
 
 -- what was answered to a line, or none, and the struct after it, as what the line came to
-abbrev pub walked : Answered → BatchSemaphore → Walked
+abbrev pub walked : WalkedLent → BatchSemaphore → Walked
 walked r s =
     record {
       bad = is_none r.answer;

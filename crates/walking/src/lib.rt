@@ -3,6 +3,7 @@
 #![tactic(auto)]
 
 ghost use Rattle.std.specs.Prelude.{◌≡◌, None, true, ◌<◌, length};
+ghost use Rattle.replies.specs.declared.Reply.TheVariants.{Done};
 ghost use Rattle.state.specs.View.{words, words_of, view_of, Fit, SameWords};
 ghost use Rattle.walking.specs.Coming.{StartedBy, Begins, walked, Comes};
 
@@ -38,7 +39,7 @@ pub struct Walked {
 // After a line, where the struct is lent: what its step answered and how many it granted, or none where it says no step; and where the next
 // line starts.
 #[derive(Clone, Copy)]
-pub struct Answered {
+pub struct WalkedLent {
     pub answer: Option<(Reply, usize)>,
     pub next: usize,
 }
@@ -95,7 +96,7 @@ pub fn begin(
 // ---- each other line
 // What the line at a place of a script comes to, on a state that 14 does not refuse. The struct is lent too: a line that says no step leaves
 // it alone, and nothing is copied for it.
-pub fn walk_lent(script: &[u8], at: usize, s: &mut BatchSemaphore, w: &mut LentWords) -> Answered
+pub fn walk_lent(script: &[u8], at: usize, s: &mut BatchSemaphore, w: &mut LentWords) -> WalkedLent
     requires { (at < length script.now) × Fit s.old (words_of w.old) w.old.grants.now }
     ensures same { SameWords w.old w.new }
     ensures comes { Comes script.now at (view_of s.old (words_of w.old)) (walked result s.new) (words_of w.new) w.new.grants.now }
@@ -103,14 +104,14 @@ pub fn walk_lent(script: &[u8], at: usize, s: &mut BatchSemaphore, w: &mut LentW
 {
     let l = reading::read_line(script, at);
     let Some(a) = l.said else {
-        return Answered {
+        return WalkedLent {
             answer: None,
             next: l.next,
         };
     };
     let r = stepping::step_on(*s, w, a);
     *s = r.state;
-    Answered {
+    WalkedLent {
         answer: Some((r.reply, r.count)),
         next: l.next,
     }
@@ -121,7 +122,7 @@ pub fn walk(script: &[u8], at: usize, s: BatchSemaphore, w: &mut LentWords) -> W
     requires { (at < length script.now) × Fit s (words_of w.old) w.old.grants.now }
     ensures same { SameWords w.old w.new }
     ensures comes { Comes script.now at (view_of s (words_of w.old)) result (words_of w.new) w.new.grants.now }
-    ensures stays { result.bad ≡ true → result.out.state ≡ s }
+    ensures stays { result.bad ≡ true → result.out ≡ record { reply = Done; count = 0; state = s } }
 {
     let mut state = s;
     let r = walk_lent(script, at, &mut state, w);
